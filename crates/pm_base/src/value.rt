@@ -1,3 +1,6 @@
+ghost use Rattle.std.specs.Prelude.{◌≡◌};
+ghost use Rattle.pm_base.specs.Changes.{applied};
+
 /// What a variable holds: a pair of numbers.
 #[derive(Clone, Copy, Debug, PartialEq, Eq)]
 pub struct Value {
@@ -20,6 +23,21 @@ pub struct Window {
 pub enum Change {
     Set(Value),
     Add(Value),
+}
+
+impl Change {
+    /// The value after the change. Sums are brought back to the ends of 64 bits, each coordinate by itself.
+    pub fn apply(&self, v: Value) -> Value
+        ensures { result ≡ applied self.now v }
+    {
+        match self {
+            Change::Set(w) => *w,
+            Change::Add(w) => Value {
+                x: v.x.saturating_add(w.x),
+                y: v.y.saturating_add(w.y),
+            },
+        }
+    }
 }
 
 /// One change of one variable.

@@ -1,0 +1,15 @@
+-- What a change makes of a value.
+use Rattle.std.specs.Prelude.{ℤ, ◌+ℤ◌}
+use Rattle.std.specs.Int.{w64, saturate_signed}
+use Rattle.pm_base.specs.declared.value.Change.{Change}
+use Rattle.pm_base.specs.declared.value.Change.TheVariants as change
+use Rattle.pm_base.specs.declared.value.Value.{Value}
+
+-- the sum, brought back to the ends of 64 bits
+abbrev pub sum_within : ℤ → ℤ → ℤ
+sum_within a b = saturate_signed w64 (a +ℤ b)
+
+-- a set gives its value; an add gives the sums of the coordinates
+abbrev pub applied : Change → Value → Value
+applied (change.Set w) v = w
+applied (change.Add w) v = record { x = sum_within v.x w.x; y = sum_within v.y w.y }

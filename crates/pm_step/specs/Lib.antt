@@ -1,0 +1,3 @@
+pub mod Arithmetic
+pub mod Expressions
+pub mod Steps

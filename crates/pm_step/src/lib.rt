@@ -1,0 +1,19 @@
+//! The step of a rule: sense, decide, act.
+#![tactic(auto)]
+
+use pm_base::{Act, List, Query, Write};
+
+/// What an agent does next: it asks for something, or it acts.
+#[derive(Debug, Drop)]
+pub enum Next {
+    Ask(Query),
+    Act(Act),
+}
+
+/// What a body has done so far.
+#[derive(Debug, Drop)]
+pub struct Deeds {
+    regs: List<i64>,
+    writes: List<Write>,
+    wait: i64,
+}
