@@ -1,0 +1,4 @@
+pub mod Choices
+pub mod Deeds
+pub mod Turns
+pub mod Retired
