@@ -13,6 +13,7 @@ mod rows;
 mod run;
 mod stamp;
 mod value;
+mod words;
 
 pub use boxed::Boxed;
 pub use layout::{ClassRow, Layout};
@@ -24,3 +25,4 @@ pub use rows::{Act, CutRow, Entry, GiveRow, Parts, PutRow, ReadRow};
 pub use run::{Event, Journal, RunSettings};
 pub use stamp::{Interval, Line, Num, Stamp};
 pub use value::{Change, Hit, Period, Query, Value, Window, Write};
+pub use words::{is_name, is_reserved, names_are_told};
