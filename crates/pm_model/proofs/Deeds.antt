@@ -8,7 +8,8 @@ use Rattle.pm_step.specs.declared.Next.TheVariants as next
 use Rattle.pm_step.specs.Expressions.{sight}
 use Rattle.pm_step.proofs.StepLaws.{asks_in, waits}
 use Rattle.pm_model.specs.Hits.{hits}
-use Rattle.pm_model.specs.Runs.{Deed, Scene, deed, deed_from, step_at}
+use Rattle.pm_model.specs.declared.Deed.{Deed}
+use Rattle.pm_model.specs.Runs.{Scene, deed, deed_from, step_at}
 
 waits-from : (left : ℕ) (scene : Scene) (answers : List (List Hit)) (n : Next) (d : Deed) → step_at scene answers ≡ n
     → deed_from left scene answers n ≡ Some d → 1 ≤ d.act.wait

@@ -12,7 +12,8 @@ use Rattle.pm_model.proofs.Choices.{and_then-Some, map-Some, option-cases}
 use Rattle.pm_model.proofs.Deeds.{deed-waits}
 use Rattle.pm_model.specs.declared.AgentState.{AgentState}
 use Rattle.pm_model.specs.declared.State.{State}
-use Rattle.pm_model.specs.Runs.{IsTimely, IsDue, Deed, Moved, due, later, sooner, least_stamp, turn, turn_at, moved, deed, scene_of, turns, and_then_on, work_of, work, rest}
+use Rattle.pm_model.specs.declared.Deed.{Deed}
+use Rattle.pm_model.specs.Runs.{IsTimely, IsDue, Moved, due, later, sooner, least_stamp, turn, turn_at, moved, deed, scene_of, turns, and_then_on, work_of, work, rest}
 
 picked : (t : Bool) (a b st : Stamp) → cond t (Some b) (Some a) ≡ Some st → (Some a ≡ Some st) ⊎ (Some b ≡ Some st)
 picked true a b st h = inr h

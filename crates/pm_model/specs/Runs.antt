@@ -5,7 +5,6 @@ use Rattle.pm_base.specs.Changes.{applied}
 use Rattle.pm_base.specs.declared.layout.ClassRow.{ClassRow}
 use Rattle.pm_base.specs.declared.program.Program.{Program}
 use Rattle.pm_base.specs.declared.program.RegRow.{RegRow}
-use Rattle.pm_base.specs.declared.rows.Act.{Act}
 use Rattle.pm_base.specs.declared.rows.Entry.{Entry}
 use Rattle.pm_base.specs.declared.stamp.Stamp.{Stamp}
 use Rattle.pm_base.specs.declared.value.Hit.{Hit}
@@ -20,6 +19,7 @@ use Rattle.pm_step.specs.declared.Next.{Next}
 use Rattle.pm_step.specs.declared.Next.TheVariants as next
 use Rattle.pm_model.specs.Hits.{hits}
 use Rattle.pm_model.specs.declared.AgentState.{AgentState}
+use Rattle.pm_model.specs.declared.Deed.{Deed}
 use Rattle.pm_model.specs.declared.State.{State}
 
 -- a time, unless it is past the horizon
@@ -61,11 +61,6 @@ pub record Scene : Type 0 where
 -- the step of the scene's rule after these answers
 abbrev pub step_at : Scene → List (List Hit) → Next
 step_at scene answers = step scene.program (sight scene.classes scene.stamp scene.regs answers)
-
--- what was sensed, and what was then done
-pub record Deed : Type 0 where
-  pub answers : List (List Hit)
-  pub act : Act
 
 -- each query is answered from the present values until the step acts, in at most so many queries
 abbrev pub deed_from : ℕ → Scene → List (List Hit) → Next → Option Deed

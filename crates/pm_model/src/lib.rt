@@ -7,7 +7,7 @@ ghost use Rattle.pm_model.specs.Runs.{turn, Moved, IsTimely, IsRetired, rest, wo
 ghost use Rattle.pm_model.specs.declared.State.{State as TheState};
 ghost use Rattle.std.specs.List.{AllByRecursion};
 
-use pm_base::{List, Value};
+use pm_base::{Act, Hit, List, Value};
 
 /// An agent between two steps: its registers, and the time of its next step, or none where it is retired.
 #[derive(Debug, Drop)]
@@ -21,6 +21,13 @@ pub struct AgentState {
 pub struct State {
     pub values: List<Value>,
     pub agents: List<AgentState>,
+}
+
+/// What a whole step sensed, and what it then does.
+#[derive(Debug, Drop)]
+pub struct Deed {
+    pub answers: List<List<Hit>>,
+    pub act: Act,
 }
 
 /// A run ends, since each turn lowers the work that is left; and what holds of each state of a run stays.
