@@ -1,0 +1,2 @@
+pub mod RuleLexingLaws
+pub mod RuleLinesLaws

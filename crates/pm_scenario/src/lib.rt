@@ -1,0 +1,4 @@
+//! Scenarios, from their texts.
+#![tactic(auto)]
+
+mod rule;
