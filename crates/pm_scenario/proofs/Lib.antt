@@ -1,2 +1,4 @@
 pub mod RuleLexingLaws
 pub mod RuleLinesLaws
+pub mod RuleNamesLaws
+pub mod RuleSpellLaws

@@ -4,3 +4,4 @@ pub mod RuleLexing
 pub mod RuleLines
 pub mod RuleReading
 pub mod RuleText
+pub mod RuleSpell

@@ -1,7 +1,8 @@
-ghost use Rattle.std.specs.Prelude.{◌≡◌, IfOk, codes};
+ghost use Rattle.std.specs.Prelude.{◌≡◌, IfOk, IsTrue, codes};
 ghost use Rattle.std.specs.Str.{bytes_eq};
 ghost use Rattle.pm_scenario.specs.RuleAnswers.{Gives};
 ghost use Rattle.pm_scenario.specs.RuleTokens.{tok, toks};
+ghost use Rattle.pm_scenario.specs.RuleLexing.{is_name};
 ghost use Rattle.pm_scenario.specs.RuleText.{sense_names, is_free, takes_sense, with_sense, whole, read_line, pair, set_line, statement};
 
 use crate::rule::expression::{
@@ -15,7 +16,8 @@ use std::alloc::Global;
 
 #[tactic(auto, unfolding(crate::specs::RuleText::is_free))]
 fn is_free(senses: &[SenseRow], word: &[u8]) -> bool
-    ensures { result ≡ is_free (sense_names senses.now) word.now }
+    ensures value { result ≡ is_free (sense_names senses.now) word.now }
+    ensures named { IsTrue result → IsTrue (is_name word.now) }
 {
     is_name(word) && !is_reserved(word) && sense_number(senses, word).is_none()
 }
