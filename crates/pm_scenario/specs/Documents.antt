@@ -42,6 +42,10 @@ abbrev pub only_item : Items → Option Data
 only_item (item d no_items) = Some d
 only_item _ = None
 
+-- the table, where it has so many keys
+abbrev pub with_keys : ℕ → Members → Option Members
+with_keys keys t = if key_count t == keys then Some t else None
+
 -- the table with so many keys, at a key that holds an array of it alone
 unfoldable pub table_at : List ℕ → ℕ → Members → Option Members
 table_at key keys ms = do
@@ -49,4 +53,4 @@ table_at key keys ms = do
   ds ← as_array d
   one ← only_item ds
   t ← as_table one
-  if key_count t == keys then Some t else None
+  with_keys keys t

@@ -2,7 +2,7 @@ ghost use Rattle.std.specs.Prelude.{◌≡◌, Some, None, IfOk, IfErr, option_m
 ghost use Rattle.std.specs.Option.{option_copied};
 ghost use Rattle.toml.specs.Data.{get_member};
 ghost use Rattle.toml.specs.View.{view, items_view, table_view};
-ghost use Rattle.pm_scenario.specs.Documents.{document_of, key_count, text_at, name_at, natural, count_at, only_item, table_at};
+ghost use Rattle.pm_scenario.specs.Documents.{document_of, key_count, text_at, name_at, natural, count_at, only_item, table_at, with_keys};
 
 use crate::ScenarioFault;
 use pm_base::is_name;
@@ -71,7 +71,7 @@ pub fn key_count(table: &Table) -> usize
 }
 
 fn with_keys(table: &Table, keys: usize) -> Option<&Table>
-    ensures { option_map (λ t. table_view t.now) result ≡ (if key_count (table_view table.now) == keys then Some (table_view table.now) else None) }
+    ensures { option_map (λ t. table_view t.now) result ≡ with_keys keys (table_view table.now) }
 {
     if key_count(table) == keys { Some(table) } else { None }
 }

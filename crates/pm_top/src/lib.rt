@@ -9,4 +9,5 @@ mod run;
 mod text;
 mod turn;
 
+pub use outcome::Ending;
 pub use program::{Report, plain, top};
