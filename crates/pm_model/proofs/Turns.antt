@@ -178,3 +178,10 @@ rest-step plan s m h ok =
     turns-enough (work plan s) (suc (work plan s)) plan s ok (omega arith) (omega arith)
     ∙ turns-go (work plan s) plan s m h
     ∙ ap (λ es. m.entry ∷ es) (turns-enough (work plan s) (work plan m.state) plan m.state f.1 (omega (arith, f.0)) (omega arith))
+
+-- the least stamp is due by the horizon
+pub least-due : (plan : Plan) (s : State) (st : Stamp) → IsTimely plan s → least_stamp 0 s.agents ≡ Some st → st.time ≤ plan.horizon
+least-due plan s st ok least =
+    let (i, a, n, g, t) = least-found 0 s.agents st least in
+    let by : IfSome a.next (λ t. t ≤ plan.horizon) = all-at (IsDue plan) s.agents i a g ok.agents in
+    rw t at by
