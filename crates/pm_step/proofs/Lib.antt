@@ -1,1 +1,6 @@
+pub mod Classes
+pub mod ExpressionLaws
+pub mod Rising
+pub mod StatementLaws
 pub mod StepLaws
+pub mod Writes

@@ -1,5 +1,5 @@
 -- Arithmetic of rules: on the integers, brought back to the ends of 64 bits.
-use Rattle.std.specs.Prelude.{◌≡◌, refl, ℕ, zero, suc, ◌^◌, Bool, true, false, not, cond, if◌then◌else◌, ℤ, pos, negsuc, ◌+ℤ◌, ◌-ℤ◌, ◌*ℤ◌, int_lt, int_le, int_div, int_rem}
+use Rattle.std.specs.Prelude.{zero, suc, Bool, true, false, not, if◌then◌else◌, ℤ, pos, negsuc, ◌+ℤ◌, ◌-ℤ◌, ◌*ℤ◌, int_lt, int_le, int_div, int_rem}
 use Rattle.std.specs.Int.{w64, saturate_signed, int_min, int_max}
 use Rattle.pm_base.specs.declared.program.Op.{Op}
 use Rattle.pm_base.specs.declared.program.Op.TheVariants as op

@@ -1,5 +1,5 @@
 -- The value of an expression.
-use Rattle.std.specs.Prelude.{ℕ, zero, suc, ◌+◌, ◌-◌, Bool, true, false, ◌&&◌, if◌then◌else◌, nat_lt, nat_le, List, [], ◌∷◌, length, get_or, slice_get, Option, Some, None, ℤ, pos, negsuc, ◌+ℤ◌}
+use Rattle.std.specs.Prelude.{ℕ, ◌+◌, ◌-◌, if◌then◌else◌, nat_lt, List, [], ◌∷◌, length, get_or, ℤ, pos, negsuc, ◌+ℤ◌}
 use Rattle.std.specs.List.{fold}
 use Rattle.std.specs.Int.{w64, saturate_signed}
 use Rattle.pm_step.specs.Arithmetic.{compute}
@@ -11,6 +11,7 @@ use Rattle.pm_base.specs.declared.program.Field.TheVariants as field
 use Rattle.pm_base.specs.declared.stamp.Stamp.{Stamp}
 use Rattle.pm_base.specs.declared.value.Hit.{Hit}
 use Rattle.pm_base.specs.declared.layout.ClassRow.{ClassRow}
+use Rattle.pm_step.specs.declared.expressions.Scene.{Scene}
 
 -- what an expression reads
 pub record Sight : Type 0 where
@@ -21,6 +22,10 @@ pub record Sight : Type 0 where
 
 abbrev pub sight : List ClassRow → Stamp → List ℤ → List (List Hit) → Sight
 sight classes stamp regs answers = record { classes = classes; stamp = stamp; regs = regs; answers = answers }
+
+-- what an expression sees, with these registers
+abbrev pub seen : Scene → List ℤ → Sight
+seen scene regs = sight scene.layout.now.classes scene.stamp regs scene.answers.now
 
 -- a variable's place in its class, counted from 0
 abbrev pub place_in_class : List ClassRow → ℕ → ℕ

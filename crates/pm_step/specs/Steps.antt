@@ -1,12 +1,11 @@
 -- The step of a rule: the next query, or what the rule does with the answers.
-use Rattle.std.specs.Prelude.{ℕ, Bool, if◌then◌else◌, nat_lt, max, List, [], ◌∷◌, ◌++◌, length, slice_get, Option, Some, None, ℤ, pos, negsuc, set, map}
-use Rattle.std.specs.List.{filter}
+use Rattle.std.specs.Prelude.{◌≡◌, ℕ, ◌<◌, ◌≤◌, Bool, true, false, if◌then◌else◌, nat_lt, max, List, [], ◌∷◌, ◌++◌, length, slice_get, Option, Some, None, ℤ, pos, negsuc, set, map}
+use Rattle.std.specs.List.{AllPairs, filter}
 use Rattle.pm_base.specs.Layouts.{class_row, member_of}
 use Rattle.pm_base.specs.declared.program.Expr.{Expr}
 use Rattle.pm_base.specs.declared.program.Place.{Place}
 use Rattle.pm_base.specs.declared.program.Place.TheVariants.{Var, Member}
 use Rattle.pm_base.specs.declared.program.Program.{Program}
-use Rattle.pm_base.specs.declared.program.RegRow.{RegRow}
 use Rattle.pm_base.specs.declared.program.Sense.{Sense}
 use Rattle.pm_base.specs.declared.program.Sense.TheVariants.{Read, Scan}
 use Rattle.pm_base.specs.declared.program.SenseRow.{SenseRow}
@@ -44,6 +43,10 @@ query_of s (Scan class x0 x1 y0 y1) =
 -- the writes to lesser variables, this one, and those to greater ones: it stands in place of an earlier one of its variable
 unfoldable pub written : List Write → Write → List Write
 written ws w = filter (λ v. nat_lt v.var w.var) ws ++ w ∷ filter (λ v. nat_lt w.var v.var) ws
+
+-- each write is to a lesser variable than those after it
+abbrev pub IsRising : List Write → Type 0
+IsRising ws = AllPairs (λ v w. v.var < w.var) ws
 
 -- what is seen after these deeds: the registers have changed
 abbrev pub sight_at : Sight → Deeds → Sight
@@ -95,3 +98,25 @@ ask_or_act s program None = next.Act (act_of (does_all s program.body (no_deeds 
 -- the step: with k answers, sense k is asked; with all answers, the body acts
 unfoldable pub step : Program → Sight → Next
 step program s = ask_or_act s program (slice_get program.senses (length s.answers))
+
+-- whether an agent asks next
+abbrev pub is_ask : Next → Bool
+is_ask (next.Ask query) = true
+is_ask (next.Act act) = false
+
+-- this is so of the act, where there is one
+abbrev pub ForAct : (Act → Type 0) → Next → Type 0
+ForAct P (next.Ask query) = Unit {0}
+ForAct P (next.Act act) = P act
+
+-- the step asks exactly while there are fewer answers than senses
+abbrev pub AsksWhileSensesAreLeft : Type 0
+AsksWhileSensesAreLeft = (program : Program) (s : Sight) → is_ask (step program s) ≡ nat_lt (length s.answers) (length program.senses)
+
+-- an agent waits at least 1
+abbrev pub WaitsAtLeastOne : Type 0
+WaitsAtLeastOne = (program : Program) (s : Sight) → ForAct (λ act. 1 ≤ act.wait) (step program s)
+
+-- no two writes of a step are to one variable, and they stand in order of variable number
+abbrev pub WritesInOrder : Type 0
+WritesInOrder = (program : Program) (s : Sight) → ForAct (λ act. IsRising act.writes) (step program s)

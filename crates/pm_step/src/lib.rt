@@ -1,7 +1,13 @@
 //! The step of a rule: sense, decide, act.
 #![tactic(auto)]
 
-use pm_base::{Act, List, Query, Write};
+mod arithmetic;
+mod expressions;
+mod laws;
+pub mod steps;
+
+pub use pm_base::Act;
+use pm_base::{List, Query, Write};
 
 /// What an agent does next: it asks for something, or it acts.
 #[derive(Debug, Drop)]
