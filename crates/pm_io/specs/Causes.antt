@@ -13,11 +13,13 @@ Rose before now = raised before ≤ now
 -- an `Err` comes only where the count of faults rose
 pub record HasCause {T E : Type 0} (before now : ℕ) (result : Result T E) : Type 0 where
   pub later : before ≤ now
+  pub limit : before < 2 ^ 64 → now < 2 ^ 64
   pub failed : OnErr result (Rose before now)
 
 -- 0 to a piece that isn't empty comes only where the count of stalls rose
 pub record HasStalled {E : Type 0} (before now : ℕ) (result : Result ℕ E) (piece : List ℕ) : Type 0 where
   pub later : before ≤ now
+  pub limit : before < 2 ^ 64 → now < 2 ^ 64
   pub stalled : IfOk result (λ n. n ≡ 0 → 0 < length piece → Rose before now)
 
 -- a count of faults that is raised by one at each `Err`, and at nothing else

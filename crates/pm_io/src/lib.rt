@@ -2,13 +2,17 @@
 #![tactic(auto)]
 
 mod gate;
+mod laws;
 mod memory;
 mod script;
 mod sink;
 mod source;
 mod standard;
+#[cfg(test)]
+mod tests;
 
 pub use gate::{FreeGate, Gate};
+pub use laws::rose_law;
 pub use memory::{MemSink, MemSource};
 pub use script::Cue;
 pub use sink::{Sink, write_whole};

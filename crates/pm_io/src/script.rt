@@ -1,4 +1,4 @@
-ghost use Rattle.std.specs.Prelude.{◌≡◌, drop};
+ghost use Rattle.std.specs.Prelude.{◌≡◌, drop, slice_get, MatchOption};
 ghost use Rattle.pm_io.specs.Memory.{cues_left, next_cue, allowed, in_source};
 
 /// What a device in memory does at one call.
@@ -38,7 +38,8 @@ impl Script {
 }
 
 fn first_after(cues: &[Cue], followed: usize) -> Cue
-    ensures { result ≡ next_cue (drop followed cues.now) }
+    ensures next { result ≡ next_cue (drop followed cues.now) }
+    ensures place { MatchOption (slice_get cues.now followed) (result ≡ Cue.All) (λ cue. result ≡ cue) }
 {
     match cues.get(followed) {
         Some(cue) => *cue,
