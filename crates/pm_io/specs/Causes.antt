@@ -6,27 +6,27 @@ use Rattle.std.specs.Io.KnownBytes.{Appends}
 abbrev pub raised : ℕ → ℕ
 raised n = min (n + 1) (2 ^ 64 - 1)
 
--- a count rose in a call, or stands at its last value
+-- a count rose in a call: it is greater after the call than before it, or stands at its last value after the call
 abbrev pub Rose : ℕ → ℕ → Type 0
 Rose before now = raised before ≤ now
 
--- an `Err` comes only where the count of faults rose
+-- the count of faults never falls and stays below 2 ^ 64, and an `Err` comes only where it rose
 pub record HasCause {T E : Type 0} (before now : ℕ) (result : Result T E) : Type 0 where
   pub later : before ≤ now
   pub limit : before < 2 ^ 64 → now < 2 ^ 64
   pub failed : OnErr result (Rose before now)
 
--- 0 to a piece that isn't empty comes only where the count of stalls rose
+-- the count of stalls never falls and stays below 2 ^ 64, and 0 to a piece that isn't empty comes only where it rose
 pub record HasStalled {E : Type 0} (before now : ℕ) (result : Result ℕ E) (piece : List ℕ) : Type 0 where
   pub later : before ≤ now
   pub limit : before < 2 ^ 64 → now < 2 ^ 64
   pub stalled : IfOk result (λ n. n ≡ 0 → 0 < length piece → Rose before now)
 
--- a count of faults that is raised by one at each `Err`, and at nothing else
+-- a count of faults is raised at each `Err`, and at nothing else
 abbrev pub CountsFaults : {T E : Type 0} → ℕ → ℕ → Result T E → Type 0
 CountsFaults before now result = MatchResult result (λ _. now ≡ before) (λ _. now ≡ raised before)
 
--- a count of stalls that is raised by one at each 0 to a piece that isn't empty, and at nothing else
+-- a count of stalls is raised at each 0 to a piece that isn't empty, and at nothing else
 abbrev pub CountsStalls : {E : Type 0} → ℕ → ℕ → Result ℕ E → List ℕ → Type 0
 CountsStalls before now result piece =
     MatchResult result (λ n. now ≡ (if n == 0 && nat_lt 0 (length piece) then raised before else before)) (λ _. now ≡ before)

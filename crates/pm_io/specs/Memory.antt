@@ -43,13 +43,13 @@ sink_stalls m = m.stalls
 abbrev pub sink_wants : MemSink → ℕ
 sink_wants m = m.wants
 
--- what a failed put leaves of that count: it fails at the cue, or for want of memory
+-- the count after a put that failed: at its cue, or else for want of memory
 abbrev pub wants_after : Cue → ℕ → ℕ
 wants_after Fail wants = wants
 wants_after All wants = raised wants
 wants_after (Take n) wants = raised wants
 
--- a put that finds no memory raises the count by one, and nothing else changes it
+-- a count of wants is raised at each put that finds no memory, and at nothing else
 abbrev pub CountsWants : {E : Type 0} → Cue → ℕ → ℕ → Result ℕ E → Type 0
 CountsWants cue before now result = MatchResult result (λ _. now ≡ before) (λ _. now ≡ wants_after cue before)
 

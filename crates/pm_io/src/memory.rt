@@ -69,9 +69,9 @@ impl Sink for MemSink {
         ensures only { OnErr result ((next_cue (sink_cues self.old) ≡ Cue.Fail) ⊎ Rose (sink_wants self.old) (sink_wants self.new)) }
         ensures fail { next_cue (sink_cues self.old) ≡ Cue.Fail → IsErr result }
         ensures want { sink_wants self.old < sink_wants self.new → IsErr result }
-        ensures wants { CountsWants (next_cue (sink_cues self.old)) (sink_wants self.old) (sink_wants self.new) result }
-        ensures faults { CountsFaults (sink_faults self.old) (sink_faults self.new) result }
-        ensures stalls { CountsStalls (sink_stalls self.old) (sink_stalls self.new) result piece.now }
+        ensures counts_wants { CountsWants (next_cue (sink_cues self.old)) (sink_wants self.old) (sink_wants self.new) result }
+        ensures counts_faults { CountsFaults (sink_faults self.old) (sink_faults self.new) result }
+        ensures counts_stalls { CountsStalls (sink_stalls self.old) (sink_stalls self.new) result piece.now }
     {
         let cue = self.script.follow();
         if cue == Cue::Fail {
@@ -160,7 +160,7 @@ impl Source for MemSource {
         ensures cues { source_cues self.new ≡ drop 1 (source_cues self.old) }
         ensures count { IfOk result (λ n. n ≡ allowed (in_source (next_cue (source_cues self.old))) (min (length buf.old) (length (source_bytes self.old)))) }
         ensures fail { IsErr result ↔ (next_cue (source_cues self.old) ≡ Cue.Fail) }
-        ensures faults { CountsFaults (source_faults self.old) (source_faults self.new) result }
+        ensures counts_faults { CountsFaults (source_faults self.old) (source_faults self.new) result }
     {
         let cue = self.script.follow();
         if cue == Cue::Fail {

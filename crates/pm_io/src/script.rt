@@ -20,6 +20,7 @@ pub struct Script {
 }
 
 impl Script {
+    /// A script that no call has followed yet.
     pub fn new(cues: Vec<Cue>) -> Script
         ensures { cues_left result ≡ cues.items }
     {

@@ -14,6 +14,7 @@ pub struct StdSource<R: Read> {
 }
 
 impl<R: Read> StdSource<R> {
+    /// A source that has had no fault.
     pub fn new(inner: R) -> StdSource<R>
         ensures inner { result.inner ≡ inner }
         ensures faults { result.faults ≡ 0 }
@@ -31,7 +32,7 @@ impl<R: Read> Source for StdSource<R> {
         ensures bound { ReadsAtMost result buf.new }
         ensures bytes { ReadConsumes (R.remaining self.old.inner) (R.remaining self.new.inner) result buf.new }
         ensures cause { HasCause self.old.faults self.new.faults result }
-        ensures faults { CountsFaults self.old.faults self.new.faults result }
+        ensures counts_faults { CountsFaults self.old.faults self.new.faults result }
     {
         match self.inner.read(buf) {
             Ok(count) => Ok(count),
@@ -52,6 +53,7 @@ pub struct StdSink<W: Write> {
 }
 
 impl<W: Write> StdSink<W> {
+    /// A sink that has had no fault and no stall.
     pub fn new(inner: W) -> StdSink<W>
         ensures inner { result.inner ≡ inner }
         ensures faults { result.faults ≡ 0 }
@@ -77,8 +79,8 @@ impl<W: Write> Sink for StdSink<W> {
         ensures bytes { WriteAppends (W.contents self.old.inner) (W.contents self.new.inner) result piece.now }
         ensures cause { HasCause self.old.faults self.new.faults result }
         ensures stall { HasStalled self.old.stalls self.new.stalls result piece.now }
-        ensures faults { CountsFaults self.old.faults self.new.faults result }
-        ensures stalls { CountsStalls self.old.stalls self.new.stalls result piece.now }
+        ensures counts_faults { CountsFaults self.old.faults self.new.faults result }
+        ensures counts_stalls { CountsStalls self.old.stalls self.new.stalls result piece.now }
     {
         match self.inner.write(piece) {
             Ok(count) => {
