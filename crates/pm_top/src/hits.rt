@@ -1,18 +1,11 @@
-ghost use Rattle.std.specs.Prelude.{◌≡◌, ◌++◌, ◌+◌, ◌<◌, ◌≤◌, ◌^◌, IfOk, OnOk, slice_get};
-ghost use Rattle.std.specs.Option.{option_copied};
+ghost use Rattle.std.specs.Prelude.{◌≡◌, ◌++◌, ◌+◌, ◌<◌, ◌≤◌, ◌^◌, ◌&&◌, int_le, IfOk, OnOk, slice_get};
 ghost use Rattle.pm_base.specs.Layouts.{IsLayout, class_row};
 ghost use Rattle.pm_base.specs.declared.value.Query.TheVariants as query;
 ghost use Rattle.pm_model.specs.Hits.{hits, inside};
-ghost use Rattle.pm_model.proofs.HitLaws.{shown_in};
+ghost use Rattle.pm_model.proofs.HitLaws.{shown, shown_in};
 
 use pm_base::{ClassRow, Hit, Layout, List, Memory, Query, Value, Window};
 use std::alloc::Global;
-
-fn look(values: &[Value], at: usize) -> Option<&Value>
-    ensures { option_copied result ≡ slice_get values.now at }
-{
-    values.get(at)
-}
 
 fn class_row(classes: &[ClassRow], class: u32) -> ClassRow
     ensures { result ≡ class_row classes.now class }
@@ -23,10 +16,36 @@ fn class_row(classes: &[ClassRow], class: u32) -> ClassRow
     }
 }
 
+fn is_between(low: i64, z: i64, high: i64) -> bool
+    ensures { result ≡ (int_le low z && int_le z high) }
+{
+    low <= z && z <= high
+}
+
 fn is_inside(value: &Value, window: &Window) -> bool
     ensures { result ≡ inside value.now window.now }
 {
-    (window.x0 <= value.x && value.x <= window.x1) && (window.y0 <= value.y && value.y <= window.y1)
+    is_between(window.x0, value.x, window.x1) && is_between(window.y0, value.y, window.y1)
+}
+
+fn value_at(values: &[Value], var: u32) -> Option<Value>
+    ensures { result ≡ slice_get values.now var }
+{
+    values.get(var as usize).copied()
+}
+
+/// That variable alone, where it has a value.
+fn shown(alloc: Global, var: u32, value: Option<Value>) -> Result<List<Hit>, Memory>
+    ensures { IfOk result (λ h. h ≡ shown var value) }
+{
+    let mut hits = List::new(alloc);
+    match value {
+        Some(value) => {
+            hits.push(Hit { var, value })?;
+            Ok(hits)
+        }
+        None => Ok(hits),
+    }
 }
 
 /// What a query of one variable is answered.
@@ -39,10 +58,7 @@ fn one_hit(
     ensures { IfOk result (λ h. h ≡ hits layout.now.classes values.now (query.One var)) }
 {
     let _ = layout;
-    let mut hits = List::new(alloc);
-    if let Some(value) = look(values, var as usize) {
-        hits.push(Hit { var, value: *value })?;
-    }
+    let hits = shown(alloc, var, value_at(values, var))?;
     Ok(hits)
 }
 
@@ -55,9 +71,9 @@ fn add_inside(
 ) -> Result<(), Memory>
     ensures { OnOk result (hits.new ≡ hits.old ++ shown_in window.now var (slice_get values.now var)) }
 {
-    match look(values, var as usize) {
-        Some(value) => if is_inside(value, window) {
-            hits.push(Hit { var, value: *value })
+    match value_at(values, var) {
+        Some(value) => if is_inside(&value, window) {
+            hits.push(Hit { var, value })
         } else {
             Ok(())
         },

@@ -59,7 +59,7 @@ fn write_turn<K: Sink>(alloc: Global, plan: &Plan, state: &mut State, out: &mut 
 /// Writes the trace of the sequential run: each line by itself, so that what was written is a prefix of the trace
 /// wherever the run stops.
 pub fn write_run<K: Sink>(alloc: Global, plan: &Plan, out: &mut K) -> Ran
-    requires limits { IsWithinLimits plan.now }
+    requires { IsWithinLimits plan.now }
     ensures done { result ≡ Ran.Done → Appends (K.holds out.old) (K.holds out.new) (trace plan.now) }
     ensures part { AppendsPrefix (K.holds out.old) (K.holds out.new) (trace plan.now) }
     ensures cause { result ≡ Ran.WriteFault → Rose (K.faults out.old) (K.faults out.new) ⊎ Rose (K.stalls out.old) (K.stalls out.new) }

@@ -8,7 +8,8 @@ use crate::hits::hits;
 use pm_base::{Act, Entry, List, Memory, RegRow, Stamp, Value, Write};
 use pm_model::{AgentState, Deed, State};
 use pm_plan::{AgentRow, Plan, VarRow};
-use pm_step::{Next, next};
+use pm_step::Next;
+use pm_step::steps::next;
 use std::alloc::Global;
 
 fn due(plan: &Plan, time: u64) -> Option<u64>
