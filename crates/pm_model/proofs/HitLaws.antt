@@ -5,13 +5,14 @@ use Rattle.std.specs.List.{filter}
 use Rattle.std.proofs.lemmas.Bool.{cases_Bool}
 use Rattle.std.proofs.lemmas.Bool.Decides.{nat_tests}
 use Rattle.pm_base.specs.Layouts.{class_row}
+use Rattle.pm_base.specs.Windows.{inside}
 use Rattle.pm_base.specs.declared.layout.ClassRow.{ClassRow}
 use Rattle.pm_base.specs.declared.value.Hit.{Hit}
 use Rattle.pm_base.specs.declared.value.Query.{Query}
 use Rattle.pm_base.specs.declared.value.Query.TheVariants as query
 use Rattle.pm_base.specs.declared.value.Value.{Value}
 use Rattle.pm_base.specs.declared.value.Window.{Window}
-use Rattle.pm_model.specs.Hits.{hits, numbered, is_asked, is_member, inside}
+use Rattle.pm_model.specs.Hits.{hits, numbered, is_asked, is_member}
 
 -- that variable, where there is one
 abbrev pub shown : ℕ → Option Value → List Hit

@@ -20,14 +20,35 @@ starts-timely plan h = record {
   count = length-map plan.agents (first_agent plan);
 }
 
-work-one : (plan : Plan) (x : ℕ) (regs : List ℤ) (b : Bool) → work_of plan (record { regs = regs; next = cond b (Some x) None }) ≤ suc plan.horizon
-work-one plan x regs true = omega arith
-work-one plan x regs false = omega arith
+work-by : (plan : Plan) (x : ℕ) (regs : List ℤ) (b : Bool) → work_of plan (record { regs = regs; next = cond b (Some x) None }) ≤ suc plan.horizon
+work-by plan x regs true = omega arith
+work-by plan x regs false = omega arith
 
-work-all : (plan : Plan) (rows : List AgentRow) → plan.horizon ≤ 1000000000000 → sum_by (work_of plan) (map (first_agent plan) rows) ≤ length rows * 1000000000001
-work-all plan [] h = omega arith
-work-all plan (row ∷ rows) h =
-    omega (arith, h, work-all plan rows h, work-one plan row.start (first_agent plan row).regs (nat_le row.start plan.horizon))
+-- an agent acts at most once at each time
+work-one : (plan : Plan) (row : AgentRow) → work_of plan (first_agent plan row) ≤ suc plan.horizon
+work-one plan row = work-by plan row.start (first_agent plan row).regs (nat_le row.start plan.horizon)
+
+sum-most : (f : AgentRow → ℕ) (m : ℕ) (rows : List AgentRow) → ((row : AgentRow) → f row ≤ m) → sum_by f rows ≤ length rows * m
+sum-most f m [] h = omega arith
+sum-most f m (row ∷ rows) h =
+    let rest : sum_by f rows ≤ length rows * m = sum-most f m rows h in
+    let one : f row ≤ m = h row in
+    let all : sum_by f (row ∷ rows) ≡ f row + sum_by f rows = refl in
+    let more : length (row ∷ rows) * m ≡ length rows * m + m = succ-mul (length rows) m in
+    omega (arith, rest, one, all, more)
+
+sum-map : (f : AgentState → ℕ) (g : AgentRow → AgentState) (rows : List AgentRow) → sum_by f (map g rows) ≡ sum_by (λ (row : AgentRow). f (g row)) rows
+sum-map f g [] = refl
+sum-map f g (row ∷ rows) = ap (λ n. f (g row) + n) (sum-map f g rows)
+
+work-all : (plan : Plan) (rows : List AgentRow) → sum_by (work_of plan) (map (first_agent plan) rows) ≤ length rows * suc plan.horizon
+work-all plan rows =
+    let most : sum_by (λ (row : AgentRow). work_of plan (first_agent plan row)) rows ≤ length rows * suc plan.horizon
+      = sum-most (λ (row : AgentRow). work_of plan (first_agent plan row)) (suc plan.horizon) rows (work-one plan) in
+    rw (sum-map (work_of plan) (first_agent plan) rows) most
 
 pub starts-small : (plan : Plan) → IsWithinLimits plan → work plan (sequential_start plan) < 2 ^ 64
-starts-small plan h = omega (arith, h.agents, work-all plan plan.agents h.horizon)
+starts-small plan h =
+    let all : work plan (sequential_start plan) ≤ length plan.agents * suc plan.horizon = work-all plan plan.agents in
+    let few : length plan.agents * suc plan.horizon ≤ 1024 * suc plan.horizon = mul-le-mul_right (suc plan.horizon) h.agents in
+    omega (arith, all, few, h.horizon)

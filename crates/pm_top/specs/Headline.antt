@@ -39,17 +39,28 @@ PrintsTrace held old new = IfSome held (λ b. (p : Plan) × (plan_of b ≡ Some 
 abbrev pub PrintsPrefix : Option (List ℕ) → Option (List ℕ) → Option (List ℕ) → Type 0
 PrintsPrefix held old new = IfSome held (λ b. IfSome (plan_of b) (λ p. AppendsPrefix old new (trace p)))
 
--- the endings of a scenario that was read to its end
+-- the endings of a run, which begins with the whole input
 abbrev pub EndsRun : Ending → Type 0
-EndsRun e = (e ≡ ending.Done) ⊎ (e ≡ ending.Refused) ⊎ (e ≡ ending.WriteFault) ⊎ (e ≡ ending.Memory)
+EndsRun ending.Done = Unit {0}
+EndsRun ending.Refused = Unit {0}
+EndsRun ending.WriteFault = Unit {0}
+EndsRun ending.Memory = Unit {0}
+EndsRun _ = ⊥
 
--- at these endings nothing was written to out
+-- the endings at which nothing was written to out
 abbrev pub WritesNothing : Ending → Type 0
-WritesNothing e = (e ≡ ending.Words) ⊎ (e ≡ ending.Refused) ⊎ (e ≡ ending.TooLong) ⊎ (e ≡ ending.ReadFault)
+WritesNothing ending.Words = Unit {0}
+WritesNothing ending.Refused = Unit {0}
+WritesNothing ending.TooLong = Unit {0}
+WritesNothing ending.ReadFault = Unit {0}
+WritesNothing _ = ⊥
 
--- at these endings the input was read to its end
+-- the endings at which the input was read to its end
 abbrev pub ReadsAll : Ending → Type 0
-ReadsAll e = (e ≡ ending.Done) ⊎ (e ≡ ending.Refused) ⊎ (e ≡ ending.WriteFault)
+ReadsAll ending.Done = Unit {0}
+ReadsAll ending.Refused = Unit {0}
+ReadsAll ending.WriteFault = Unit {0}
+ReadsAll _ = ⊥
 
 -- this line was offered: all of it was taken, or a prefix where the sink failed
 abbrev pub Offers : Option (List ℕ) → Option (List ℕ) → Type 0 → List ℕ → Type 0

@@ -1,7 +1,7 @@
-ghost use Rattle.std.specs.Prelude.{◌≡◌, ◌++◌, ◌+◌, ◌<◌, ◌≤◌, ◌^◌, ◌&&◌, int_le, IfOk, OnOk, slice_get};
+ghost use Rattle.std.specs.Prelude.{◌≡◌, ◌++◌, ◌+◌, ◌<◌, ◌≤◌, ◌^◌, IfOk, OnOk, slice_get};
 ghost use Rattle.pm_base.specs.Layouts.{IsLayout, class_row};
 ghost use Rattle.pm_base.specs.declared.value.Query.TheVariants as query;
-ghost use Rattle.pm_model.specs.Hits.{hits, inside};
+ghost use Rattle.pm_model.specs.Hits.{hits};
 ghost use Rattle.pm_model.proofs.HitLaws.{shown, shown_in};
 
 use pm_base::{ClassRow, Hit, Layout, List, Memory, Query, Value, Window};
@@ -14,18 +14,6 @@ fn class_row(classes: &[ClassRow], class: u32) -> ClassRow
         Some(row) => *row,
         None => ClassRow { first: 0, count: 0 },
     }
-}
-
-fn is_between(low: i64, z: i64, high: i64) -> bool
-    ensures { result ≡ (int_le low z && int_le z high) }
-{
-    low <= z && z <= high
-}
-
-fn is_inside(value: &Value, window: &Window) -> bool
-    ensures { result ≡ inside value.now window.now }
-{
-    is_between(window.x0, value.x, window.x1) && is_between(window.y0, value.y, window.y1)
 }
 
 fn value_at(values: &[Value], var: u32) -> Option<Value>
@@ -72,7 +60,7 @@ fn add_inside(
     ensures { OnOk result (hits.new ≡ hits.old ++ shown_in window.now var (slice_get values.now var)) }
 {
     match value_at(values, var) {
-        Some(value) => if is_inside(&value, window) {
+        Some(value) => if value.inside(window) {
             hits.push(Hit { var, value })
         } else {
             Ok(())

@@ -1,0 +1,52 @@
+use Rattle.std.proofs.Common.{Some, refl, subst}
+use Rattle.pm_top.specs.Headline.{EndsRun, IsAccepted, IsRefused, PrintsPrefix, PrintsTrace}
+use Rattle.pm_top.proofs.Endings.{runs-nothing}
+use Rattle.pm_top.proofs.Prints.{accepted-is, held-too-long, of-held, prints-none, refused-is}
+use Rattle.pm_top.proofs.program.run_seq.Goals as goal
+
+pub returns-in-Err-Failed-clause-part : goal.returns-in-Err-Failed-clause-part
+returns-in-Err-Failed-clause-part g c = prints-none (g.S.Source.held c.args.input.now) (g.K.Sink.holds c.args.out.now)
+
+pub returns-in-Err-TooLong-clause-part : goal.returns-in-Err-TooLong-clause-part
+returns-in-Err-TooLong-clause-part g c = prints-none (g.S.Source.held c.args.input.now) (g.K.Sink.holds c.args.out.now)
+
+pub returns-in-Err-TooLong-clause-too_long : goal.returns-in-Err-TooLong-clause-too_long
+returns-in-Err-TooLong-clause-too_long g c =
+    let past = c.in-Err-TooLong.ensures.too_long c.in-Err-TooLong.field-0-is in
+    λ h. (held-too-long (g.S.Source.held c.args.input.now) (g.S.Source.held c.read_whole.new.input) past, past)
+
+pub returns-in-Err-Memory-clause-part : goal.returns-in-Err-Memory-clause-part
+returns-in-Err-Memory-clause-part g c = prints-none (g.S.Source.held c.args.input.now) (g.K.Sink.holds c.args.out.now)
+
+pub returns-clause-done : goal.returns-clause-done
+returns-clause-done g c =
+    λ h. of-held (λ b. PrintsTrace (Some b) (g.K.Sink.holds c.args.out.now) (g.K.Sink.holds c.run_text.new.out)) (g.S.Source.held c.args.input.now)
+    (g.S.Source.held c.read_whole.new.input) c.in-Ok.bytes.items c.in-Ok.ensures.whole (rw c.as_slice.ensures.value at (c.run_text.ensures.done h))
+
+pub returns-clause-part : goal.returns-clause-part
+returns-clause-part g c =
+    of-held (λ b. PrintsPrefix (Some b) (g.K.Sink.holds c.args.out.now) (g.K.Sink.holds c.run_text.new.out)) (g.S.Source.held c.args.input.now)
+    (g.S.Source.held c.read_whole.new.input) c.in-Ok.bytes.items c.in-Ok.ensures.whole (rw c.as_slice.ensures.value at c.run_text.ensures.part)
+
+pub returns-clause-nothing : goal.returns-clause-nothing
+returns-clause-nothing g c = λ n. (c.run_text.ensures.refused (runs-nothing c.run_text.result c.run_text.ensures.ran n)).1
+
+pub returns-clause-refused : goal.returns-clause-refused
+returns-clause-refused g c =
+    λ h. of-held IsRefused (g.S.Source.held c.args.input.now) (g.S.Source.held c.read_whole.new.input) c.in-Ok.bytes.items c.in-Ok.ensures.whole
+    (refused-is c.in-Ok.bytes.items c.in-Ok.ensures.whole.few (rw c.as_slice.ensures.value at (c.run_text.ensures.refused h).0))
+
+pub returns-clause-too_long : goal.returns-clause-too_long
+returns-clause-too_long g c = λ h. absurd (subst EndsRun h c.run_text.ensures.ran)
+
+pub returns-clause-accepted : goal.returns-clause-accepted
+returns-clause-accepted g c =
+    λ h. let a = c.run_text.ensures.accepted h in
+    of-held IsAccepted (g.S.Source.held c.args.input.now) (g.S.Source.held c.read_whole.new.input) c.in-Ok.bytes.items c.in-Ok.ensures.whole
+    (accepted-is c.in-Ok.bytes.items a.0 c.in-Ok.ensures.whole.few (rw c.as_slice.ensures.value at a.1))
+
+pub returns-clause-read_fault : goal.returns-clause-read_fault
+returns-clause-read_fault g c = λ h. absurd (subst EndsRun h c.run_text.ensures.ran)
+
+pub returns-clause-words : goal.returns-clause-words
+returns-clause-words g c = λ h. subst EndsRun h c.run_text.ensures.ran
