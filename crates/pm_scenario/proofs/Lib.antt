@@ -2,3 +2,4 @@ pub mod RuleLexingLaws
 pub mod RuleLinesLaws
 pub mod RuleNamesLaws
 pub mod RuleSpellLaws
+pub mod RuleSpelledLaws

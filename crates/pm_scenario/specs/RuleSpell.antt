@@ -1,5 +1,5 @@
 -- The tokens of an expression and of a statement, in the grammar's order.
-use Rattle.std.specs.Prelude.{◌≡◌, ℕ, ◌<◌, nat_lt, Bool, true, false, ◌&&◌, List, [], ◌∷◌, ◌++◌, length, get_or, Some, codes, pos}
+use Rattle.std.specs.Prelude.{◌≡◌, ℕ, ◌<◌, nat_lt, Bool, true, false, ◌&&◌, List, [], ◌∷◌, ◌++◌, length, get_or, Some, codes, pos, neg_ℤ}
 use Rattle.pm_scenario.specs.RuleTokens.{Tok, name, number, symbol}
 use Rattle.pm_scenario.specs.RuleReading.{number_of}
 use Rattle.pm_scenario.specs.RuleText.{empty}
@@ -79,3 +79,10 @@ worked_program = record {
   senses = record { name = codes "a"; sense = Read (Var 0) } ∷ [];
   body = Set (Var 0) (Bin op.Add (Part 0 field.X) (Num (pos 1))) (Num (pos 0)) ∷ [];
 }
+
+-- by longest match a line is cut into these tokens
+abbrev pub worked_line : List ℕ
+worked_line = codes "x_1 <=-012==( -3)- 4"
+
+abbrev pub worked_tokens : List Tok
+worked_tokens = name (codes "x_1") ∷ symbol sym.AtMost ∷ number (neg_ℤ (pos 12)) ∷ symbol sym.Equal ∷ symbol sym.Open ∷ number (neg_ℤ (pos 3)) ∷ symbol sym.Close ∷ symbol sym.Minus ∷ number (pos 4) ∷ []

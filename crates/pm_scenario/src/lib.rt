@@ -3,4 +3,7 @@
 
 mod rule;
 
-pub use rule::{expressions_read_again, some_rules, statements_read_again};
+pub use rule::{
+    expressions_are_spelled, expressions_read_again, lines_are_pieces, some_rules, some_tokens,
+    statements_read_again,
+};
