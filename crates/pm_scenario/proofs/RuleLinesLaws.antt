@@ -4,7 +4,7 @@ use Rattle.std.specs.Prelude.{◌==◌}
 use Rattle.std.specs.List.{AllByRecursion}
 use Rattle.std.proofs.lemmas.Bool.Decides.{nat_tests}
 use Rattle.pm_scenario.specs.RuleLines.{lines_of, line_len, onto_first, joined, IsNoFeed, IsOneLine}
-use Rattle.std.proofs.Common.{◌≡◌, refl, ap, sym, List, [], ◌∷◌, ◌++◌, Ok, Err, Some, None, Result, append_assoc}
+use Rattle.std.proofs.Common.{◌≡◌, refl, List, [], ◌∷◌}
 
 onto_whole : (b : ℕ) (t : List ℕ) (rest : List (List ℕ)) → onto_first b (t ∷ rest) ≡ (b ∷ t) ∷ rest
 onto_whole b t rest = refl

@@ -1,17 +1,15 @@
 -- What is read was spelled.
-use Rattle.std.proofs.Common.{◌≡◌, refl, ap, sym, ◌∙◌, rules, arith, ℕ, zero, suc, ◌+◌, ◌<◌, Bool, true, false, List, [], ◌∷◌, ◌++◌, length, get_or, Option, Some, None, append_assoc, codes, ℤ, nat_lt, subst}
-use Rattle.std.specs.Prelude.{◌&&◌, ◌^◌}
+use Rattle.std.proofs.Common.{◌≡◌, refl, ap, sym, ◌∙◌, arith, ℕ, zero, suc, ◌+◌, ◌<◌, Bool, true, false, List, [], ◌∷◌, ◌++◌, length, get_or, Option, Some, None, append_assoc, codes, nat_lt, subst}
+use Rattle.std.specs.Prelude.{◌^◌}
 use Rattle.std.specs.Str.{bytes_eq}
 use Rattle.std.proofs.lemmas.Option.{same_Some}
 use Rattle.std.proofs.lemmas.Slice.Eq.{bytes_eq-Decides}
-use Rattle.std.proofs.lemmas.Grind.{common_steps}
 use Rattle.std.proofs.lemmas.Bool.Decides.{nat_tests}
 use Rattle.pm_scenario.specs.RuleAnswers.{◌>>=◌}
 use Rattle.pm_scenario.specs.RuleTokens.{Tok, name, number, symbol}
-use Rattle.pm_scenario.specs.RuleReading.{Found, expression, after, is_open, is_close, is_dot, is_plus, name_at, closed, part, field_named, number_of, number_from, in_u32}
+use Rattle.pm_scenario.specs.RuleReading.{Found, expression, after, is_close, is_dot, is_plus, name_at, closed, part, field_named, number_of, number_from, in_u32}
 use Rattle.pm_scenario.specs.RuleSpell.{spell, is_plain, field_word, is_coordinate}
 use Rattle.pm_scenario.proofs.RuleSpellLaws.{spell-Num, spell-Part, spell-Bin, plain-Num, plain-Part, plain-Bin}
-use Rattle.pm_scenario.specs.declared.rule.token.Symbol.{Symbol}
 use Rattle.pm_scenario.specs.declared.rule.token.Symbol.TheVariants as symbols
 use Rattle.pm_base.specs.declared.program.Expr.{Expr}
 use Rattle.pm_base.specs.declared.program.Expr.TheVariants.{Num, Part, Bin}

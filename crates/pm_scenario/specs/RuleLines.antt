@@ -1,5 +1,5 @@
 -- The lines of a text, and what a line says.
-use Rattle.std.specs.Prelude.{◌≡◌, ◌++◌, ℕ, zero, suc, ◌+◌, ◌-◌, ◌==◌, Bool, true, false, if◌then◌else◌, List, [], ◌∷◌, take, length, slice_index}
+use Rattle.std.specs.Prelude.{◌≡◌, ◌++◌, ℕ, ◌+◌, ◌-◌, ◌==◌, false, if◌then◌else◌, List, [], ◌∷◌, take, length, slice_index}
 use Rattle.std.specs.List.{AllByRecursion}
 
 -- the pieces between line feeds

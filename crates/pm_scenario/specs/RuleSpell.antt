@@ -2,13 +2,10 @@
 use Rattle.std.specs.Prelude.{◌≡◌, ℕ, ◌<◌, nat_lt, Bool, true, false, ◌&&◌, List, [], ◌∷◌, ◌++◌, length, get_or, Some, codes, pos, neg_ℤ}
 use Rattle.pm_scenario.specs.RuleTokens.{Tok, name, number, symbol}
 use Rattle.pm_scenario.specs.RuleReading.{number_of}
-use Rattle.pm_scenario.specs.RuleText.{empty}
 use Rattle.pm_scenario.specs.declared.rule.token.Symbol.TheVariants as sym
 use Rattle.pm_base.specs.declared.program.Program.{Program}
-use Rattle.pm_base.specs.declared.program.SenseRow.{SenseRow}
 use Rattle.pm_base.specs.declared.program.Sense.TheVariants.{Read}
 use Rattle.pm_base.specs.declared.program.Place.TheVariants.{Var}
-use Rattle.pm_base.specs.declared.program.Stmt.{Stmt}
 use Rattle.pm_base.specs.declared.program.Stmt.TheVariants.{Set}
 use Rattle.pm_base.specs.declared.program.Expr.{Expr}
 use Rattle.pm_base.specs.declared.program.Expr.TheVariants.{Num, Part, Bin}
