@@ -6,9 +6,6 @@ use Rattle.std.proofs.lemmas.Bool.Decides.{nat_tests}
 use Rattle.pm_scenario.specs.RuleLines.{lines_of, line_len, onto_first, joined, IsNoFeed, IsOneLine}
 use Rattle.std.proofs.Common.{◌≡◌, refl, List, [], ◌∷◌}
 
-onto_whole : (b : ℕ) (t : List ℕ) (rest : List (List ℕ)) → onto_first b (t ∷ rest) ≡ (b ∷ t) ∷ rest
-onto_whole b t rest = refl
-
 more_at : (b : ℕ) (t : List ℕ) (is : Bool) → (b == 10) ≡ is → line_len (b ∷ t) < length (b ∷ t) →
     (line_len t < length t → lines_of t ≡ take (line_len t) t ∷ lines_of (drop (line_len t + 1) t)) →
     lines_of (b ∷ t) ≡ take (line_len (b ∷ t)) (b ∷ t) ∷ lines_of (drop (line_len (b ∷ t) + 1) (b ∷ t))

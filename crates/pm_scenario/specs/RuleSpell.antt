@@ -70,6 +70,10 @@ spell_set senses v x y = name (codes "set") ∷ name v ∷ symbol sym.Assign ∷
 abbrev pub worked_text : List ℕ
 worked_text = codes "read a = c0\nset c0 = (a.x + 1), 0\n"
 
+-- the same with comments, tabs, carriage returns and blank lines
+abbrev pub spaced_text : List ℕ
+spaced_text = codes "# one sense\r\n\tread  a =c0 # here\r\n \t\r\n\nset c0=(a . x+01),-0"
+
 abbrev pub worked_program : Program
 worked_program = record {
   regs = [];

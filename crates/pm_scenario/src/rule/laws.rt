@@ -9,7 +9,7 @@ ghost use Rattle.pm_scenario.specs.RuleLines.{lines_of, joined, IsOneLine};
 ghost use Rattle.pm_scenario.specs.RuleTokens.{Tok};
 ghost use Rattle.pm_scenario.specs.RuleReading.{number_of, expression};
 ghost use Rattle.pm_scenario.specs.RuleText.{sense_names, with_sense, statement, rule_of, empty};
-ghost use Rattle.pm_scenario.specs.RuleSpell.{spell, is_plain, AreDistinct, spell_read, spell_set, worked_text, worked_program, worked_line, worked_tokens};
+ghost use Rattle.pm_scenario.specs.RuleSpell.{spell, is_plain, AreDistinct, spell_read, spell_set, worked_text, spaced_text, worked_program, worked_line, worked_tokens};
 
 /// The lines of a text are the text, but for the line feeds between them, and no line has a line feed.
 pub fn lines_are_pieces()
@@ -28,6 +28,7 @@ pub fn some_tokens()
 /// What some texts are read as: a sense and a sum, and no text at all.
 pub fn some_rules()
     ensures worked { rule_of (codes "c0" ∷ []) worked_text ≡ Some worked_program }
+    ensures spaced { rule_of (codes "c0" ∷ []) spaced_text ≡ Some worked_program }
     ensures nothing { rule_of [] [] ≡ Some empty }
 {}
 
