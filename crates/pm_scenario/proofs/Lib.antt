@@ -1,5 +1,6 @@
+pub mod Keys
 pub mod RuleLexingLaws
 pub mod RuleLinesLaws
 pub mod RuleNamesLaws
 pub mod RuleSpellLaws
-pub mod Keys
+pub mod RuleSpelledLaws

@@ -5,7 +5,7 @@ use Rattle.std.proofs.lemmas.List.{drop_more}
 use Rattle.std.proofs.lemmas.Grind.{common_steps}
 use Rattle.pm_scenario.specs.RuleLexing.{value_after, lex_from, at_most, lex, token, is_blank, behind}
 use Rattle.pm_scenario.specs.RuleTokens.{Tok}
-use Rattle.std.proofs.Common.{append_assoc, Bool, true, false, slice_index}
+use Rattle.std.proofs.Common.{append_assoc, true, false, slice_index}
 
 -- digits never make a number less
 pub value_after-le : (n : ℕ) (cs : List ℕ) → n ≤ value_after n cs

@@ -1,10 +1,9 @@
 -- Names are text.
-use Rattle.std.proofs.Common.{◌≡◌, refl, arith, rules, ℕ, zero, suc, ◌+◌, ◌<◌, ◌≤◌, Bool, true, false, List, [], ◌∷◌, length, slice_index}
-use Rattle.std.specs.Prelude.{◌&&◌, ◌==◌, nat_le, IsTrue}
+use Rattle.std.proofs.Common.{◌≡◌, refl, arith, ℕ, zero, suc, ◌<◌, ◌≤◌, Bool, true, false, List, [], ◌∷◌, length}
+use Rattle.std.specs.Prelude.{IsTrue}
 use Rattle.std.specs.Str.{IsAscii}
-use Rattle.std.proofs.lemmas.Grind.{common_steps}
 use Rattle.std.proofs.lemmas.Bool.Decides.{nat_tests}
-use Rattle.pm_scenario.specs.RuleLexing.{is_name, is_word, is_letter, is_digit, word_len}
+use Rattle.pm_scenario.specs.RuleLexing.{is_name, is_word, word_len}
 
 word_low : (b : ℕ) → is_word b ≡ true → b < 128
 word_low b e = grind (arith, nat_tests)

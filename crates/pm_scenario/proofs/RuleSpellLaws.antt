@@ -1,11 +1,11 @@
 -- What is spelled is read again.
-use Rattle.std.proofs.Common.{◌≡◌, refl, ap, sym, ◌∙◌, rules, arith, ℕ, zero, suc, ◌+◌, ◌≤◌, ◌<◌, Bool, true, false, List, [], ◌∷◌, ◌++◌, length, get_or, Option, Some, None, append_assoc, codes, ℤ, subst, nat_lt}
+use Rattle.std.proofs.Common.{◌≡◌, refl, ap, sym, ◌∙◌, rules, arith, ℕ, zero, suc, ◌+◌, ◌≤◌, ◌<◌, Bool, true, false, List, [], ◌∷◌, ◌++◌, length, get_or, Some, append_assoc, ℤ, subst, nat_lt}
 use Rattle.std.specs.Prelude.{◌&&◌}
 use Rattle.std.proofs.lemmas.List.{length-append, append-nil}
 use Rattle.std.proofs.lemmas.Bool.Decides.{nat_tests}
 use Rattle.pm_scenario.specs.RuleTokens.{Tok, name, number, symbol}
-use Rattle.pm_scenario.specs.RuleReading.{Found, expression, after, name_at, closed, part, field_named, number_of}
-use Rattle.pm_scenario.specs.RuleSpell.{spell, spell_step, is_plain, plain_step, AreDistinct, field_word, is_coordinate, is_sum, spell_set}
+use Rattle.pm_scenario.specs.RuleReading.{expression, after, name_at, closed, part, field_named, number_of}
+use Rattle.pm_scenario.specs.RuleSpell.{spell, is_plain, AreDistinct, field_word, is_coordinate, is_sum, spell_set}
 use Rattle.pm_scenario.specs.RuleText.{sense_names, statement, set_line, pair}
 use Rattle.pm_base.specs.declared.program.Program.{Program}
 use Rattle.pm_base.specs.declared.program.Stmt.TheVariants.{Set}

@@ -1,5 +1,6 @@
 -- The lines of a text, and what a line says.
-use Rattle.std.specs.Prelude.{ℕ, zero, suc, ◌+◌, ◌-◌, ◌==◌, Bool, true, false, if◌then◌else◌, List, [], ◌∷◌, take, length, slice_index}
+use Rattle.std.specs.Prelude.{◌≡◌, ◌++◌, ℕ, ◌+◌, ◌-◌, ◌==◌, false, if◌then◌else◌, List, [], ◌∷◌, take, length, slice_index}
+use Rattle.std.specs.List.{AllByRecursion}
 
 -- the pieces between line feeds
 abbrev pub onto_first : ℕ → List (List ℕ) → List (List ℕ)
@@ -9,6 +10,19 @@ onto_first b (l ∷ ls) = (b ∷ l) ∷ ls
 unfoldable pub lines_of : List ℕ → List (List ℕ)
 lines_of [] = [] ∷ []
 lines_of (b ∷ t) = if b == 10 then [] ∷ lines_of t else onto_first b (lines_of t)
+
+-- lines with a line feed between each and the next
+abbrev pub joined : List (List ℕ) → List ℕ
+joined [] = []
+joined (l ∷ []) = l
+joined (l ∷ m ∷ ls) = l ++ (10 ∷ joined (m ∷ ls))
+
+-- no byte of it is a line feed
+abbrev pub IsNoFeed : ℕ → Type 0
+IsNoFeed b = (b == 10) ≡ false
+
+abbrev pub IsOneLine : List ℕ → Type 0
+IsOneLine l = AllByRecursion IsNoFeed l
 
 -- how many bytes stand before a line feed
 abbrev pub line_len : List ℕ → ℕ

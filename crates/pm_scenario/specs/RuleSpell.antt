@@ -1,14 +1,11 @@
 -- The tokens of an expression and of a statement, in the grammar's order.
-use Rattle.std.specs.Prelude.{◌≡◌, ℕ, ◌<◌, nat_lt, Bool, true, false, ◌&&◌, List, [], ◌∷◌, ◌++◌, length, get_or, Some, codes, pos}
+use Rattle.std.specs.Prelude.{◌≡◌, ℕ, ◌<◌, nat_lt, Bool, true, false, ◌&&◌, List, [], ◌∷◌, ◌++◌, length, get_or, Some, codes, pos, neg_ℤ}
 use Rattle.pm_scenario.specs.RuleTokens.{Tok, name, number, symbol}
 use Rattle.pm_scenario.specs.RuleReading.{number_of}
-use Rattle.pm_scenario.specs.RuleText.{empty}
 use Rattle.pm_scenario.specs.declared.rule.token.Symbol.TheVariants as sym
 use Rattle.pm_base.specs.declared.program.Program.{Program}
-use Rattle.pm_base.specs.declared.program.SenseRow.{SenseRow}
 use Rattle.pm_base.specs.declared.program.Sense.TheVariants.{Read}
 use Rattle.pm_base.specs.declared.program.Place.TheVariants.{Var}
-use Rattle.pm_base.specs.declared.program.Stmt.{Stmt}
 use Rattle.pm_base.specs.declared.program.Stmt.TheVariants.{Set}
 use Rattle.pm_base.specs.declared.program.Expr.{Expr}
 use Rattle.pm_base.specs.declared.program.Expr.TheVariants.{Num, Part, Bin}
@@ -73,9 +70,20 @@ spell_set senses v x y = name (codes "set") ∷ name v ∷ symbol sym.Assign ∷
 abbrev pub worked_text : List ℕ
 worked_text = codes "read a = c0\nset c0 = (a.x + 1), 0\n"
 
+-- the same with comments, tabs, carriage returns and blank lines
+abbrev pub spaced_text : List ℕ
+spaced_text = codes "# one sense\r\n\tread  a =c0 # here\r\n \t\r\n\nset c0=(a . x+01),-0"
+
 abbrev pub worked_program : Program
 worked_program = record {
   regs = [];
   senses = record { name = codes "a"; sense = Read (Var 0) } ∷ [];
   body = Set (Var 0) (Bin op.Add (Part 0 field.X) (Num (pos 1))) (Num (pos 0)) ∷ [];
 }
+
+-- by longest match a line is cut into these tokens
+abbrev pub worked_line : List ℕ
+worked_line = codes "x_1 <=-012==( -3)- 4"
+
+abbrev pub worked_tokens : List Tok
+worked_tokens = name (codes "x_1") ∷ symbol sym.AtMost ∷ number (neg_ℤ (pos 12)) ∷ symbol sym.Equal ∷ symbol sym.Open ∷ number (neg_ℤ (pos 3)) ∷ symbol sym.Close ∷ symbol sym.Minus ∷ number (pos 4) ∷ []

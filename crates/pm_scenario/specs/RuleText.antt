@@ -1,5 +1,5 @@
 -- The program of a rule's text.
-use Rattle.std.specs.Prelude.{ℕ, ◌+◌, ◌==◌, nat_le, nat_lt, Bool, true, false, not, ◌&&◌, if◌then◌else◌, List, [], ◌∷◌, ◌++◌, length, map, Option, Some, None, is_some, codes}
+use Rattle.std.specs.Prelude.{ℕ, ◌+◌, ◌==◌, nat_le, nat_lt, Bool, not, ◌&&◌, if◌then◌else◌, List, [], ◌∷◌, ◌++◌, length, map, Option, Some, None, is_some, codes}
 use Rattle.std.specs.Str.{bytes_eq}
 use Rattle.pm_scenario.specs.RuleAnswers.{◌>>=◌}
 use Rattle.pm_scenario.specs.RuleTokens.{Tok, name, number, symbol}
@@ -9,7 +9,6 @@ use Rattle.pm_scenario.specs.RuleReading.{after, is_assign, is_comma, name_at, i
 use Rattle.pm_base.specs.declared.program.Program.{Program}
 use Rattle.pm_base.specs.declared.program.SenseRow.{SenseRow}
 use Rattle.pm_base.specs.declared.program.Expr.{Expr}
-use Rattle.pm_base.specs.declared.program.Stmt.{Stmt}
 use Rattle.pm_base.specs.declared.program.Stmt.TheVariants.{Set}
 use Rattle.pm_base.specs.declared.program.Sense.TheVariants.{Read}
 use Rattle.pm_base.specs.declared.program.Place.TheVariants.{Var}

@@ -1,5 +1,5 @@
 -- Tokens without the text that they lie in.
-use Rattle.std.specs.Prelude.{ℕ, Bool, true, false, List, ℤ, map}
+use Rattle.std.specs.Prelude.{ℕ, List, ℤ, map}
 use Rattle.pm_scenario.specs.declared.rule.token.Symbol.{Symbol}
 use Rattle.pm_scenario.specs.declared.rule.token.Token.{Token}
 use Rattle.pm_scenario.specs.declared.rule.token.Token.TheVariants as token

@@ -5,5 +5,8 @@ mod documents;
 mod rule;
 mod scenario;
 
-pub use rule::{expressions_read_again, some_rules, statements_read_again};
+pub use rule::{
+    expressions_are_spelled, expressions_read_again, lines_are_pieces, some_rules, some_tokens,
+    statements_read_again,
+};
 pub use scenario::{ScenarioFault, read};

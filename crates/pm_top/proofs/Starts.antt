@@ -1,11 +1,13 @@
 -- The start of a run: all agents are due by the horizon, and the work of the whole run is a number of 64 bits.
-use Rattle.std.proofs.Common.{◌≡◌, ℕ, suc, ◌+◌, ◌-◌, ◌*◌, ◌^◌, ◌<◌, ◌≤◌, List, [], ◌∷◌, map, length, Bool, true, false, Option, Some, None, cond, nat_le, arith, ℤ}
+use Rattle.std.proofs.Common.{◌≡◌, ℕ, suc, ◌+◌, ◌-◌, ◌*◌, ◌^◌, ◌<◌, ◌≤◌, refl, ap, List, [], ◌∷◌, map, length, Bool, true, false, Option, Some, None, cond, nat_le, arith, ℤ}
 use Rattle.std.specs.Prelude.{sum_by}
+use Rattle.std.proofs.Math.Nat.{mul-le-mul_right, suc-mul}
 use Rattle.std.proofs.lemmas.List.{length-map}
 use Rattle.std.specs.List.{AllByRecursion}
 use Rattle.pm_plan.specs.declared.plan.AgentRow.{AgentRow}
 use Rattle.pm_plan.specs.declared.plan.Plan.{Plan}
 use Rattle.pm_plan.specs.Limits.{IsWithinLimits}
+use Rattle.pm_model.specs.declared.AgentState.{AgentState}
 use Rattle.pm_model.specs.Runs.{IsTimely, IsDue, first_agent, sequential_start, work, work_of}
 use Rattle.pm_model.proofs.Turns.{due-due}
 
@@ -34,7 +36,7 @@ sum-most f m (row ∷ rows) h =
     let rest : sum_by f rows ≤ length rows * m = sum-most f m rows h in
     let one : f row ≤ m = h row in
     let all : sum_by f (row ∷ rows) ≡ f row + sum_by f rows = refl in
-    let more : length (row ∷ rows) * m ≡ length rows * m + m = succ-mul (length rows) m in
+    let more : length (row ∷ rows) * m ≡ length rows * m + m = suc-mul (length rows) m in
     omega (arith, rest, one, all, more)
 
 sum-map : (f : AgentState → ℕ) (g : AgentRow → AgentState) (rows : List AgentRow) → sum_by f (map g rows) ≡ sum_by (λ (row : AgentRow). f (g row)) rows

@@ -9,6 +9,10 @@ pub returns-clause-worked : goal.returns-clause-worked
 unfolding rule_of lines_from line_at statement read_line set_line with_sense is_free pair lines_of code without_return lex token word positive negative digits at_most mark is_name expression part closed after name_at is_reserved number_of
 returns-clause-worked c = refl
 
+pub returns-clause-spaced : goal.returns-clause-spaced
+unfolding rule_of lines_from line_at statement read_line set_line with_sense is_free pair lines_of code without_return lex token word positive negative digits at_most mark is_name expression part closed after name_at is_reserved number_of
+returns-clause-spaced c = refl
+
 pub returns-clause-nothing : goal.returns-clause-nothing
 unfolding rule_of lines_from line_at lines_of code without_return lex
 returns-clause-nothing c = refl

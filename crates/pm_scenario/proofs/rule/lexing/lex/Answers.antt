@@ -1,9 +1,9 @@
-use Rattle.std.proofs.Common.{rules, arith, ◌≡◌, ap, sym, List, [], ◌∷◌, ◌++◌, false, length, ◌<◌, slice_index_or}
+use Rattle.std.proofs.Common.{rules, arith, ◌≡◌, sym, [], ◌∷◌, false, length, ◌<◌, slice_index_or}
 use Rattle.std.proofs.lemmas.Grind.{common_steps}
 use Rattle.std.proofs.lemmas.List.{map-append}
 use Rattle.pm_scenario.specs.RuleLexing.{is_blank}
-use Rattle.pm_scenario.specs.RuleTokens.{Tok, tok, toks}
-use Rattle.pm_scenario.proofs.RuleLexingLaws.{lex-token, lex-blank}
+use Rattle.pm_scenario.specs.RuleTokens.{tok, toks}
+use Rattle.pm_scenario.proofs.RuleLexingLaws.{lex-token}
 use Rattle.pm_scenario.proofs.rule.lexing.lex.Goals as goal
 
 pub loop-b-preserved : goal.loop-b-preserved

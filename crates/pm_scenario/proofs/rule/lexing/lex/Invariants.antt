@@ -1,6 +1,6 @@
 use Rattle.std.proofs.Common.{◌≡◌, length}
 use Rattle.pm_scenario.specs.RuleTokens.{toks}
-use Rattle.pm_scenario.specs.RuleLexing.{lex, lex_from, behind}
+use Rattle.pm_scenario.specs.RuleLexing.{lex, behind}
 use Rattle.pm_scenario.proofs.rule.lexing.lex.Given as goal
 
 abbrev pub invariant-loop-b : goal.invariant-loop-b

@@ -1,4 +1,4 @@
-use Rattle.std.proofs.Common.{rules, arith}
+use Rattle.std.proofs.Common.{rules}
 use Rattle.std.proofs.lemmas.Str.{IsUtf8-from_ascii}
 use Rattle.pm_scenario.proofs.RuleNamesLaws.{name_low}
 use Rattle.pm_scenario.proofs.rule.lexing.name_of.Goals as goal

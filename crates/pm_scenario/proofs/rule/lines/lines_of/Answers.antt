@@ -1,4 +1,4 @@
-use Rattle.std.proofs.Common.{rules, ◌≡◌, ◌<◌, ◌≤◌, arith, length, Bor, List, [], ◌∷◌, ℕ, append_assoc, sym, ◌∙◌}
+use Rattle.std.proofs.Common.{rules, ◌<◌, arith, length, Bor, List, [], ◌∷◌, ℕ, append_assoc}
 use Rattle.std.proofs.lemmas.Grind.{common_steps}
 use Rattle.std.proofs.lemmas.List.{map-append}
 use Rattle.pm_scenario.specs.RuleLines.{line_len}
