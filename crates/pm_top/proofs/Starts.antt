@@ -1,8 +1,9 @@
 -- The start of a run: all agents are due by the horizon, and the work of the whole run is a number of 64 bits.
-use Rattle.std.proofs.Common.{◌≡◌, ℕ, suc, ◌+◌, ◌-◌, ◌*◌, ◌^◌, ◌<◌, ◌≤◌, refl, ap, List, [], ◌∷◌, map, length, Bool, true, false, Option, Some, None, cond, nat_le, arith, ℤ}
+use Rattle.std.proofs.Common.{◌≡◌, ℕ, suc, ◌+◌, ◌-◌, ◌*◌, ◌^◌, ◌<◌, ◌≤◌, List, [], ◌∷◌, map, length, Bool, true, false, Option, Some, None, cond, nat_le, arith, ℤ}
 use Rattle.std.specs.Prelude.{sum_by}
 use Rattle.std.proofs.Math.Nat.{mul-le-mul_right, suc-mul}
 use Rattle.std.proofs.lemmas.List.{length-map}
+use Rattle.std.proofs.lemmas.List.Sums.{sum_by-cons}
 use Rattle.std.specs.List.{AllByRecursion}
 use Rattle.pm_plan.specs.declared.plan.AgentRow.{AgentRow}
 use Rattle.pm_plan.specs.declared.plan.Plan.{Plan}
@@ -30,24 +31,18 @@ work-by plan x regs false = omega arith
 work-one : (plan : Plan) (row : AgentRow) → work_of plan (first_agent plan row) ≤ suc plan.horizon
 work-one plan row = work-by plan row.start (first_agent plan row).regs (nat_le row.start plan.horizon)
 
-sum-most : (f : AgentRow → ℕ) (m : ℕ) (rows : List AgentRow) → ((row : AgentRow) → f row ≤ m) → sum_by f rows ≤ length rows * m
-sum-most f m [] h = omega arith
-sum-most f m (row ∷ rows) h =
-    let rest : sum_by f rows ≤ length rows * m = sum-most f m rows h in
-    let one : f row ≤ m = h row in
-    let all : sum_by f (row ∷ rows) ≡ f row + sum_by f rows = refl in
-    let more : length (row ∷ rows) * m ≡ length rows * m + m = suc-mul (length rows) m in
-    omega (arith, rest, one, all, more)
-
-sum-map : (f : AgentState → ℕ) (g : AgentRow → AgentState) (rows : List AgentRow) → sum_by f (map g rows) ≡ sum_by (λ (row : AgentRow). f (g row)) rows
-sum-map f g [] = refl
-sum-map f g (row ∷ rows) = ap (λ n. f (g row) + n) (sum-map f g rows)
+states-most : (f : AgentState → ℕ) (g : AgentRow → AgentState) (m : ℕ) (rows : List AgentRow) → ((row : AgentRow) → f (g row) ≤ m)
+    → sum_by f (map g rows) ≤ length rows * m
+states-most f g m [] h = omega arith
+states-most f g m (row ∷ rows) h =
+    let rest : sum_by f (map g rows) ≤ length rows * m = states-most f g m rows h in
+    let all : sum_by f (g row ∷ map g rows) ≡ f (g row) + sum_by f (map g rows) = sum_by-cons f (g row) (map g rows) in
+    let more : suc (length rows) * m ≡ length rows * m + m = suc-mul (length rows) m in
+    let sum : f (g row) + sum_by f (map g rows) ≤ suc (length rows) * m = omega (arith, rest, h row, more) in
+    rw all sum
 
 work-all : (plan : Plan) (rows : List AgentRow) → sum_by (work_of plan) (map (first_agent plan) rows) ≤ length rows * suc plan.horizon
-work-all plan rows =
-    let most : sum_by (λ (row : AgentRow). work_of plan (first_agent plan row)) rows ≤ length rows * suc plan.horizon
-      = sum-most (λ (row : AgentRow). work_of plan (first_agent plan row)) (suc plan.horizon) rows (work-one plan) in
-    rw (sum-map (work_of plan) (first_agent plan) rows) most
+work-all plan rows = states-most (work_of plan) (first_agent plan) (suc plan.horizon) rows (work-one plan)
 
 pub starts-small : (plan : Plan) → IsWithinLimits plan → work plan (sequential_start plan) < 2 ^ 64
 starts-small plan h =
