@@ -1,0 +1,39 @@
+//! The program `pdesmas`: `pm_top::top` over the standard streams.
+#![tactic(auto)]
+
+use pm_io::{FreeGate, StdSink, StdSource};
+use pm_top::top;
+use std::process::ExitCode;
+use std::rt::Env;
+use std::{env, io};
+
+/// The status where the words can't be had for want of memory.
+const MEMORY: u8 = 6;
+
+/// The words after the program's name.
+fn words(rt: &(impl Env + AllocGlobal)) -> io::Result<Vec<String>> {
+    let mut words = Vec::new(rt.alloc());
+    for word in env::args(rt)?.skip(1) {
+        words.push(word)?;
+    }
+    Ok(words)
+}
+
+fn main(rt: HostRuntime) -> ExitCode {
+    let Ok(words) = words(&rt) else {
+        return ExitCode::from(MEMORY);
+    };
+    let mut input = StdSource::new(rt.stdin());
+    let mut out = StdSink::new(rt.stdout());
+    let mut err = StdSink::new(rt.stderr());
+    let report = top(
+        &rt,
+        rt.alloc(),
+        &words,
+        &mut input,
+        &mut out,
+        &mut err,
+        &FreeGate,
+    );
+    ExitCode::from(report.status)
+}
