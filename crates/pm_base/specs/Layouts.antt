@@ -1,5 +1,5 @@
 -- Classes of variables.
-use Rattle.std.specs.Prelude.{◌≡◌, ℕ, ◌+◌, ◌==◌, ◌<◌, ◌^◌, ℤ, pos, unsigned_abs, if◌then◌else◌, List, [], ◌∷◌, length, slice_index_or}
+use Rattle.std.specs.Prelude.{◌≡◌, ℕ, suc, ◌+◌, ◌==◌, ◌≤◌, ◌<◌, ◌^◌, nat_lt, ℤ, pos, unsigned_abs, if◌then◌else◌, List, [], ◌∷◌, length, slice_index_or}
 use Rattle.std.specs.Int.{int_rem_euclid}
 use Rattle.pm_base.specs.declared.layout.ClassRow.{ClassRow}
 use Rattle.pm_base.specs.declared.layout.Layout.{Layout}
@@ -21,3 +21,24 @@ class_row classes class = slice_index_or classes class (record { first = 0; coun
 -- the member that an index names: the Euclidean remainder by the class's count is its place
 abbrev pub member_of : ClassRow → ℤ → ℕ
 member_of row e = if row.count == 0 then row.first else row.first + unsigned_abs (int_rem_euclid e (pos row.count))
+
+-- how many variables these classes have
+abbrev pub var_count : List ClassRow → ℕ
+var_count [] = 0
+var_count (c ∷ cs) = c.count + var_count cs
+
+-- the variable is one of the class's members
+pub record IsMember (row : ClassRow) (var : ℕ) : Type 0 where
+  pub first : row.first ≤ var
+  pub last : var < row.first + row.count
+
+-- the first class that ends past the variable; how many classes there are where none does
+abbrev pub class_of : List ClassRow → ℕ → ℕ
+class_of [] var = 0
+class_of (c ∷ cs) var = if nat_lt var (c.first + c.count) then 0 else suc (class_of cs var)
+
+-- the variable is a member of the class of this number, and of no other class
+pub record IsClassOf (classes : List ClassRow) (var class : ℕ) : Type 0 where
+  pub exists : class < length classes
+  pub member : IsMember (class_row classes class) var
+  pub only : (k : ℕ) → IsMember (class_row classes k) var → k ≡ class

@@ -1,0 +1,4 @@
+pub mod Boxes
+pub mod Classes
+pub mod Names
+pub mod Orders

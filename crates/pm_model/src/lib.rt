@@ -1,0 +1,48 @@
+//! The sequential run of a plan and its trace: definitions that contracts cite, and their laws.
+#![tactic(auto)]
+
+ghost use Rattle.std.specs.Prelude.{◌≡◌, ◌∷◌, ◌<◌, Some, None, []};
+ghost use Rattle.pm_plan.specs.declared.plan.Plan.{Plan};
+ghost use Rattle.pm_model.specs.Runs.{turn, Moved, IsTimely, IsRetired, rest, work};
+ghost use Rattle.pm_model.specs.declared.State.{State as TheState};
+ghost use Rattle.std.specs.List.{AllByRecursion};
+
+use pm_base::{Act, Hit, List, Value};
+
+/// An agent between two steps: its registers, and the time of its next step, or none where it is retired.
+#[derive(Debug, Drop)]
+pub struct AgentState {
+    pub regs: List<i64>,
+    pub next: Option<u64>,
+}
+
+/// A state of the sequential run: the variables' values and the agents, each by number.
+#[derive(Debug, Drop)]
+pub struct State {
+    pub values: List<Value>,
+    pub agents: List<AgentState>,
+}
+
+/// What a whole step sensed, and what it then does.
+#[derive(Debug, Drop)]
+pub struct Deed {
+    pub answers: List<List<Hit>>,
+    pub act: Act,
+}
+
+/// A run ends, since each turn lowers the work that is left; and what holds of each state of a run stays.
+pub fn a_turn_lowers_the_work()
+    ensures falls { (plan : Plan) (s : TheState) (m : Moved) → turn plan s ≡ Some m → IsTimely plan s → work plan m.state < work plan s }
+    ensures stays { (plan : Plan) (s : TheState) (m : Moved) → turn plan s ≡ Some m → IsTimely plan s → IsTimely plan m.state }
+{}
+
+/// What is left of a run is the entry of the next turn and what is left after it.
+pub fn what_is_left()
+    ensures step { (plan : Plan) (s : TheState) (m : Moved) → turn plan s ≡ Some m → IsTimely plan s → rest plan s ≡ m.entry ∷ rest plan m.state }
+    ensures done { (plan : Plan) (s : TheState) → turn plan s ≡ None → rest plan s ≡ [] }
+{}
+
+/// There is no next turn only where all agents are retired.
+pub fn all_are_retired()
+    ensures { (plan : Plan) (s : TheState) → turn plan s ≡ None → IsTimely plan s → AllByRecursion IsRetired s.agents }
+{}

@@ -1,0 +1,5 @@
+pub mod RuleLexingLaws
+pub mod RuleLinesLaws
+pub mod RuleNamesLaws
+pub mod RuleSpellLaws
+pub mod Keys

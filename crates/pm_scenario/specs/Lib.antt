@@ -1,0 +1,9 @@
+pub mod RuleAnswers
+pub mod RuleTokens
+pub mod RuleLexing
+pub mod RuleLines
+pub mod RuleReading
+pub mod RuleText
+pub mod RuleSpell
+pub mod Documents
+pub mod Scenarios

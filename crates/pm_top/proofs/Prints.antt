@@ -1,0 +1,39 @@
+-- What is printed of a scenario that the input held.
+use Rattle.std.proofs.Common.{◌≡◌, ℕ, ◌<◌, ◌≤◌, List, length, Option, Some, None, IfSome, refl, sym, ap, ◌∙◌, subst, arith, append-nil, length-append}
+use Rattle.std.specs.Io.KnownBytes.{Appends, Consumes, IsAtEnd}
+use Rattle.pm_io.specs.Causes.{AppendsPrefix}
+use Rattle.pm_io.proofs.Known.{prefix-none, consumes-all}
+use Rattle.pm_plan.specs.declared.plan.Plan.{Plan}
+use Rattle.pm_scenario.specs.Scenarios.{plan_of}
+use Rattle.pm_model.specs.Traces.{trace}
+use Rattle.pm_top.specs.Headline.{PrintsTrace, PrintsPrefix, IsAccepted, IsRefused, IsTooLong}
+use Rattle.pm_top.specs.Readings.{IsReadWhole, IsReadPast}
+
+of-plan : (o : Option Plan) (old : Option (List ℕ)) → IfSome o (λ p. AppendsPrefix old old (trace p))
+of-plan None old = tt
+of-plan (Some p) old = prefix-none old (trace p)
+
+-- nothing is a prefix of any trace
+pub prints-none : (held old : Option (List ℕ)) → PrintsPrefix held old old
+prints-none None old = tt
+prints-none (Some b) old = of-plan (plan_of b) old
+
+pub prints-prefix : (b : List ℕ) (p : Plan) (old new : Option (List ℕ)) → plan_of b ≡ Some p → AppendsPrefix old new (trace p) → PrintsPrefix (Some b) old new
+prints-prefix b p old new e a = rw e a
+
+-- a fact of the bytes that were read is a fact of those that the input held
+pub of-held : (P : List ℕ → Type 0) (held rest : Option (List ℕ)) (xs : List ℕ) → IsReadWhole held rest xs → P xs → IfSome held P
+of-held P None rest xs r p = tt
+of-held P (Some b) rest xs r p = subst P (sym (consumes-all (Some b) rest xs r.taken r.end)) p
+
+-- more than the limit was taken
+pub held-too-long : (held rest : Option (List ℕ)) → IsReadPast held rest → IfSome held IsTooLong
+held-too-long None rest r = tt
+held-too-long (Some b) None r = absurd r.1
+held-too-long (Some b) (Some more) r = omega (arith, ap length r.1, r.2, length-append r.0 more)
+
+pub refused-is : (xs : List ℕ) → length xs ≤ 4194304 → plan_of xs ≡ None → IsRefused xs
+refused-is xs few none = record { short = few; no_plan = none }
+
+pub accepted-is : (xs : List ℕ) (p : Plan) → length xs ≤ 4194304 → plan_of xs ≡ Some p → IsAccepted xs
+accepted-is xs p few is = record { short = few; plan = p; is = is }
