@@ -1,4 +1,3 @@
-pub mod Classes
 pub mod ExpressionLaws
 pub mod Rising
 pub mod StatementLaws

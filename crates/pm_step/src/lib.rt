@@ -5,6 +5,8 @@ mod arithmetic;
 mod expressions;
 mod laws;
 pub mod steps;
+#[cfg(test)]
+mod tests;
 
 pub use pm_base::Act;
 use pm_base::{List, Query, Write};

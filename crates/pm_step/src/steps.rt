@@ -1,5 +1,5 @@
-ghost use Rattle.std.specs.Prelude.{◌≡◌, ◌+◌, ◌<◌, ◌≤◌, ◌^◌, IfOk, OnOk, [], length, drop};
-ghost use Rattle.pm_base.specs.Layouts.{IsLayout, class_row, member_of};
+ghost use Rattle.std.specs.Prelude.{◌≡◌, ◌<◌, ◌≤◌, ◌^◌, IfOk, OnOk, [], length, drop};
+ghost use Rattle.pm_base.specs.Layouts.{IsLayout, class_row};
 ghost use Rattle.pm_step.specs.Writes.{begins_with, place_of};
 ghost use Rattle.pm_step.specs.Expressions.{seen, sight};
 ghost use Rattle.pm_step.specs.Steps.{act_of, does, does_all, no_deeds, pair, query_of, step, variable, with_change, written, IsRising};
@@ -21,17 +21,6 @@ fn class_row(classes: &List<ClassRow>, class: u32) -> ClassRow
     }
 }
 
-fn member_of(row: ClassRow, e: i64) -> u32
-    requires { row.first + row.count < 2 ^ 32 }
-    ensures { result ≡ member_of row e }
-{
-    if row.count == 0 {
-        row.first
-    } else {
-        row.first + e.rem_euclid(row.count as i64) as u32
-    }
-}
-
 fn variable(scene: &Scene<'_>, regs: &List<i64>, place: &Place) -> u32
     requires time { scene.now.stamp.time < 2 ^ 63 }
     requires layout { IsLayout scene.now.layout.now }
@@ -41,7 +30,7 @@ fn variable(scene: &Scene<'_>, regs: &List<i64>, place: &Place) -> u32
         Place::Var { var } => *var,
         Place::Member { class, at } => {
             let e = value(scene, regs, at);
-            member_of(class_row(&scene.layout.classes, *class), e)
+            class_row(&scene.layout.classes, *class).member(e)
         }
     }
 }
