@@ -1,6 +1,8 @@
 pub mod Choices
-pub mod Deeds
-pub mod HitLaws
 pub mod DeedLaws
-pub mod Turns
+pub mod Deeds
+pub mod ExampleLaws
+pub mod HitLaws
 pub mod Retired
+pub mod Starts
+pub mod Turns

@@ -1,7 +1,9 @@
 //! The sequential run of a plan and its trace: definitions that contracts cite, and their laws.
 #![tactic(auto)]
 
-ghost use Rattle.std.specs.Prelude.{◌≡◌, ◌∷◌, ◌<◌, Some, None, []};
+ghost use Rattle.std.specs.Prelude.{◌≡◌, ◌∷◌, ◌<◌, Some, None, [], codes};
+ghost use Rattle.pm_model.specs.Examples.{counter, tie_read_first, tie_write_first};
+ghost use Rattle.pm_model.specs.Traces.{trace};
 ghost use Rattle.pm_plan.specs.declared.plan.Plan.{Plan};
 ghost use Rattle.pm_model.specs.Runs.{turn, Moved, IsTimely, IsRetired, rest, work};
 ghost use Rattle.pm_model.specs.declared.State.{State as TheState};
@@ -29,6 +31,14 @@ pub struct Deed {
     pub answers: List<List<Hit>>,
     pub act: Act,
 }
+
+/// The traces of three small plans: an agent that counts, and two agents at the same time, of which the lower number
+/// acts first.
+pub fn small_traces()
+    ensures counter { trace counter ≡ codes "0 ant [c0=0,0] c0:=1,0\n1 ant [c0=1,0] c0:=2,0\n2 ant [c0=2,0] c0:=3,0\nend 3\n" }
+    ensures write_first { trace tie_write_first ≡ codes "0 w c0:=5,0\n0 r [c0=5,0]\nend 2\n" }
+    ensures read_first { trace tie_read_first ≡ codes "0 r [c0=0,0]\n0 w c0:=5,0\nend 2\n" }
+{}
 
 /// A run ends, since each turn lowers the work that is left; and what holds of each state of a run stays.
 pub fn a_turn_lowers_the_work()

@@ -3,14 +3,14 @@ use Rattle.std.specs.Prelude.{slice_get}
 use Rattle.pm_base.specs.Layouts.{class_row}
 use Rattle.pm_base.specs.declared.layout.ClassRow.{ClassRow}
 use Rattle.pm_base.specs.declared.value.Query.TheVariants as query
-use Rattle.pm_step.proofs.Classes.{class-below}
+use Rattle.pm_base.proofs.Classes.{row_under}
 use Rattle.pm_model.proofs.HitLaws.{hits_to, hits_to-first, hits_to-more, hits_to-end, shown_in}
 use Rattle.pm_top.proofs.hits.class_hits.Goals as goal
 
 pub overflow_add-var-end : goal.overflow_add-var-end
 overflow_add-var-end c =
     let row : c.class_row-row.result ≡ class_row c.args.layout.now.classes c.args.class = rw c.as_slice.ensures at c.class_row-row.ensures in
-    let below = class-below 0 c.args.layout.now.classes c.args.class c.requires.follow in
+    let below = row_under 0 c.args.layout.now.classes c.requires.follow c.args.class in
     let first : c.class_row-row.result.first ≡ (class_row c.args.layout.now.classes c.args.class).first = ap (λ (r : ClassRow). r.first) row in
     let count : c.class_row-row.result.count ≡ (class_row c.args.layout.now.classes c.args.class).count = ap (λ (r : ClassRow). r.count) row in
     omega (arith, below, first, count)

@@ -2,7 +2,7 @@ use Rattle.std.proofs.Common.{◌≡◌, ◌<◌, ◌+◌, refl, sym, ap, subst,
 use Rattle.pm_model.specs.declared.State.{State}
 use Rattle.pm_model.specs.Runs.{IsTimely, work}
 use Rattle.pm_model.proofs.Turns.{turn-falls}
-use Rattle.pm_top.proofs.Starts.{starts-timely, starts-small}
+use Rattle.pm_model.proofs.Starts.{starts-timely, starts-small}
 use Rattle.pm_top.proofs.Written.{IsSoFar, sofar-first, sofar-wrote, sofar-done, sofar-end, sofar-stop, sofar-fault}
 use Rattle.pm_top.proofs.run.write_run.Goals as goal
 
