@@ -23,7 +23,7 @@ deed-acts-after scene answers act e = ap (deed_from (length scene.program.senses
 
 asks-one : (left more : ℕ) (scene : Scene) (answers : List (List Hit)) (q : Query) → left ≡ suc more
     → deed_from left scene answers (next.Ask q)
-      ≡ deed_from more scene (answers ++ hits scene.classes scene.values q ∷ []) (step_at scene (answers ++ hits scene.classes scene.values q ∷ []))
+    ≡ deed_from more scene (answers ++ hits scene.classes scene.values q ∷ []) (step_at scene (answers ++ hits scene.classes scene.values q ∷ []))
 asks-one left more scene answers q e = ap (λ n. deed_from n scene answers (next.Ask q)) e
 
 pub deed-asks-after : (scene : Scene) (answers : List (List Hit)) (q : Query) → step_at scene answers ≡ next.Ask q
@@ -34,4 +34,4 @@ deed-asks-after scene answers q e lt =
     let more = answers ++ hits scene.classes scene.values q ∷ [] in
     ap (deed_from (length scene.program.senses - length answers) scene answers) e
     ∙ asks-one (length scene.program.senses - length answers) (length scene.program.senses - length more) scene answers q
-      (omega (arith, lt, length-append answers (hits scene.classes scene.values q ∷ [])))
+    (omega (arith, lt, length-append answers (hits scene.classes scene.values q ∷ [])))

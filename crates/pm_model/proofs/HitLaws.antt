@@ -133,4 +133,4 @@ hits_to-more classes values class w n le lt =
     ap (λ i. filter (is_asked classes (query.Class class w)) (numbered 0 (take i values))) more
     ∙ one-more (is_asked classes (query.Class class w)) 0 n n values (omega arith)
     ∙ ap (λ hs. filter (is_asked classes (query.Class class w)) (numbered 0 (take n values)) ++ hs)
-      (shown-in classes class w n (slice_get values n) (in-class (class_row classes class) n le lt))
+    (shown-in classes class w n (slice_get values n) (in-class (class_row classes class) n le lt))

@@ -37,12 +37,7 @@ fn shown(alloc: Global, var: u32, value: Option<Value>) -> Result<List<Hit>, Mem
 }
 
 /// What a query of one variable is answered.
-fn one_hit(
-    alloc: Global,
-    layout: &Layout,
-    values: &[Value],
-    var: u32,
-) -> Result<List<Hit>, Memory>
+fn one_hit(alloc: Global, layout: &Layout, values: &[Value], var: u32) -> Result<List<Hit>, Memory>
     ensures { IfOk result (λ h. h ≡ hits layout.now.classes values.now (query.One var)) }
 {
     let _ = layout;

@@ -163,7 +163,14 @@ pub fn turn(alloc: Global, plan: &Plan, state: &mut State) -> Result<Option<Entr
     let Some(agent) = state.agents.get(stamp.agent as usize) else {
         return Ok(None);
     };
-    let done = deed(alloc, plan, state.values.as_slice(), stamp, row, &agent.regs)?;
+    let done = deed(
+        alloc,
+        plan,
+        state.values.as_slice(),
+        stamp,
+        row,
+        &agent.regs,
+    )?;
     let Deed { answers, act } = done;
     let Act { writes, regs, wait } = act;
     let next = due(plan, later(stamp.time, wait));

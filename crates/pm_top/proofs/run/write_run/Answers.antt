@@ -35,7 +35,7 @@ turns-preserved g c =
     record {
       timely = subst (λ (s : State). IsTimely c.args.plan.now s) w.2 f.1;
       so_far = subst (λ (s : State). IsSoFar c.args.plan.now s (g.K.Sink.holds c.args.out.now) (g.K.Sink.holds c.write_turn.new.out) (c.turns.steps + 1)) w.2
-        (sofar-wrote _ _ w.0 _ _ _ _ c.turns.invariant.timely w.1 c.turns.invariant.so_far w.3);
+          (sofar-wrote _ _ w.0 _ _ _ _ c.turns.invariant.timely w.1 c.turns.invariant.so_far w.3);
       work = omega (arith, f.0, same, c.turns.invariant.work);
       faults = omega (arith, c.turns.invariant.faults, c.in-Wrote.ensures.faults);
       stalls = omega (arith, c.turns.invariant.stalls, c.in-Wrote.ensures.stalls);

@@ -1,0 +1,200 @@
+use pm_io::{Cue, FreeGate, MemSink, MemSource};
+use pm_top::{plain, top};
+use std::alloc::{AllocError, Global};
+use std::test::Fail;
+
+/// One agent that counts up to the horizon.
+const COUNTER: &str =
+    "version = 1\nhorizon = 2\n[[clp]]\nname = \"root\"\n[[class]]\nname = \"cell\"\n[[class.var]]\nname = \"c0\"\nat = \"root\"\n[[agent]]\nname = \"ant\"\nhome = \"root\"\nrule = \"\"\"\nread a = c0\nset c0 = (a.x + 1), 0\n\"\"\"\n";
+
+const TWO_LINES: &str = "0 ant [c0=0,0] c0:=1,0\n1 ant [c0=1,0] c0:=2,0\n";
+
+const TRACE: &str =
+    "0 ant [c0=0,0] c0:=1,0\n1 ant [c0=1,0] c0:=2,0\n2 ant [c0=2,0] c0:=3,0\nend 3\n";
+
+/// A scan, which isn't built yet.
+const SCAN: &str =
+    "version = 1\nhorizon = 0\n[[clp]]\nname = \"root\"\n[[class]]\nname = \"cell\"\n[[class.var]]\nname = \"c0\"\nat = \"root\"\n[[agent]]\nname = \"ant\"\nhome = \"root\"\nrule = \"scan a = cell 5 0 0 9\"\n";
+
+/// One byte at each call.
+const BYTES: [Cue; 400] = [Cue::Take(1); 400];
+
+const WORDS: &str = "pdesmas: the words are not understood\n";
+
+const NOT_BUILT: &str = "pdesmas: scenario: this form is not built yet\n";
+
+const READ_FAULT: &str = "pdesmas: the input cannot be read\n";
+
+const WRITE_FAULT: &str = "pdesmas: the output cannot be written\n";
+
+/// A call, and what it has to leave.
+#[derive(Clone, Copy)]
+struct Case<'a> {
+    name: &'a str,
+    words: &'a [&'a str],
+    text: &'a str,
+    input: &'a [Cue],
+    out: &'a [Cue],
+    err: &'a [Cue],
+    status: u8,
+    written: &'a str,
+    told: &'a str,
+}
+
+/// The counter over devices that never fail.
+const GOOD: Case<'static> = Case {
+    name: "counter",
+    words: &["seq"],
+    text: COUNTER,
+    input: &[],
+    out: &[],
+    err: &[],
+    status: 0,
+    written: TRACE,
+    told: "",
+};
+
+fn words_of(alloc: Global, words: &[&str]) -> Result<Vec<String>, AllocError> {
+    let mut all = Vec::new(alloc);
+    for word in words {
+        all.push(String::from_str(alloc, word)?)?;
+    }
+    Ok(all)
+}
+
+#[test]
+fn the_counter_through_top(rt: HostRuntime) -> Result<(), Fail> {
+    let alloc = rt.alloc();
+    let words = words_of(alloc, &["seq"])?;
+    let bytes = Vec::from_slice(alloc, COUNTER.as_bytes())?;
+    let mut input = MemSource::new(bytes, Vec::new(alloc));
+    let mut out = MemSink::new(alloc, Vec::new(alloc));
+    let mut err = MemSink::new(alloc, Vec::new(alloc));
+    let report = top(
+        &rt, alloc, &words, &mut input, &mut out, &mut err, &FreeGate,
+    );
+    assert_eq!(rt; report.status, 0);
+    assert!(rt; out.bytes() == TRACE.as_bytes());
+    assert!(rt; err.bytes().is_empty());
+    Ok(())
+}
+
+#[test]
+fn devices_words_and_texts(rt: HostRuntime) -> Result<(), Fail> {
+    let alloc = rt.alloc();
+    for case in [
+        Case {
+            name: "one byte at a time",
+            input: &BYTES,
+            out: &BYTES,
+            ..GOOD
+        },
+        Case {
+            name: "the third put fails",
+            out: &[Cue::All, Cue::All, Cue::Fail],
+            status: 5,
+            written: TWO_LINES,
+            told: WRITE_FAULT,
+            ..GOOD
+        },
+        Case {
+            name: "the first put takes nothing",
+            out: &[Cue::Take(0)],
+            status: 5,
+            written: "",
+            told: WRITE_FAULT,
+            ..GOOD
+        },
+        Case {
+            name: "the first take fails",
+            input: &[Cue::Fail],
+            status: 4,
+            written: "",
+            told: READ_FAULT,
+            ..GOOD
+        },
+        Case {
+            name: "the second take fails",
+            input: &[Cue::Take(9), Cue::Fail],
+            status: 4,
+            written: "",
+            told: READ_FAULT,
+            ..GOOD
+        },
+        Case {
+            name: "the error line fails",
+            input: &[Cue::Fail],
+            err: &[Cue::Take(9), Cue::Fail],
+            status: 4,
+            written: "",
+            told: "pdesmas: ",
+            ..GOOD
+        },
+        Case {
+            name: "no words",
+            words: &[],
+            status: 1,
+            written: "",
+            told: WORDS,
+            ..GOOD
+        },
+        Case {
+            name: "another word",
+            words: &["fly"],
+            status: 1,
+            written: "",
+            told: WORDS,
+            ..GOOD
+        },
+        Case {
+            name: "two words",
+            words: &["seq", "seq"],
+            status: 1,
+            written: "",
+            told: WORDS,
+            ..GOOD
+        },
+        Case {
+            name: "no scenario",
+            text: "version = 1\nhorizon = \n",
+            status: 2,
+            written: "",
+            told: NOT_BUILT,
+            ..GOOD
+        },
+        Case {
+            name: "a scan",
+            text: SCAN,
+            status: 2,
+            written: "",
+            told: NOT_BUILT,
+            ..GOOD
+        },
+    ] {
+        let words = words_of(alloc, case.words)?;
+        let bytes = Vec::from_slice(alloc, case.text.as_bytes())?;
+        let mut input = MemSource::new(bytes, Vec::from_slice(alloc, case.input)?);
+        let mut out = MemSink::new(alloc, Vec::from_slice(alloc, case.out)?);
+        let mut err = MemSink::new(alloc, Vec::from_slice(alloc, case.err)?);
+        let report = plain(alloc, &words, &mut input, &mut out, &mut err);
+        assert_eq!(rt; report.status, case.status, "{}", case.name);
+        assert!(rt; out.bytes() == case.written.as_bytes(), "{}", case.name);
+        assert!(rt; err.bytes() == case.told.as_bytes(), "{}", case.name);
+    }
+    Ok(())
+}
+
+#[test]
+fn a_scenario_past_the_limit(rt: HostRuntime) -> Result<(), Fail> {
+    let alloc = rt.alloc();
+    let words = words_of(alloc, &["seq"])?;
+    let bytes = vec![in alloc; b' '; 4_194_305]?;
+    let mut input = MemSource::new(bytes, Vec::new(alloc));
+    let mut out = MemSink::new(alloc, Vec::new(alloc));
+    let mut err = MemSink::new(alloc, Vec::new(alloc));
+    let report = plain(alloc, &words, &mut input, &mut out, &mut err);
+    assert_eq!(rt; report.status, 2);
+    assert!(rt; out.bytes().is_empty());
+    assert!(rt; err.bytes() == b"pdesmas: the scenario is longer than 4194304 bytes\n".as_slice());
+    Ok(())
+}
