@@ -4,6 +4,8 @@
 mod documents;
 mod rule;
 mod scenario;
+#[cfg(test)]
+mod tests;
 
 pub use rule::{
     expressions_are_spelled, expressions_read_again, lines_are_pieces, some_rules, some_tokens,

@@ -75,7 +75,11 @@ fn agent_of<'a>(clp: &str, root: &'a Table) -> Option<(&'a str, &'a str)>
     let name = name_at(table, "name")?;
     let rule = text_at(table, "rule")?;
     let home = text_at(table, "home")?;
-    if home == clp { Some((name, rule)) } else { None }
+    if home == clp {
+        Some((name, rule))
+    } else {
+        None
+    }
 }
 
 fn one<T: Drop>(alloc: Global, item: T) -> Result<List<T>, Memory>
