@@ -11,4 +11,4 @@ pub use rule::{
     expressions_are_spelled, expressions_read_again, lines_are_pieces, some_rules, some_tokens,
     statements_read_again,
 };
-pub use scenario::{ScenarioFault, read};
+pub use scenario::{ScenarioFault, a_worked_scenario, read};
