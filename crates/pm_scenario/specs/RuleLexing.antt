@@ -1,22 +1,16 @@
 -- The tokens of a line.
 use Rattle.std.specs.Prelude.{ℕ, zero, suc, ◌+◌, ◌-◌, ◌*◌, ◌^◌, Bool, true, false, ◌&&◌, ◌||◌, ◌==◌, if◌then◌else◌, nat_le, List, [], ◌∷◌, ◌++◌, length, take, slice_index, Option, Some, None, option_map, pos, neg_ℤ}
+use Rattle.pm_base.specs.Names.{is_lower, is_word}
 use Rattle.pm_scenario.specs.RuleTokens.{Tok, name, number, symbol}
 use Rattle.pm_scenario.specs.RuleAnswers.{◌>>=◌}
 use Rattle.pm_scenario.specs.declared.rule.token.Symbol.{Symbol}
 use Rattle.pm_scenario.specs.declared.rule.token.Symbol.TheVariants as sym
-
-abbrev pub is_letter : ℕ → Bool
-is_letter b = nat_le 97 b && nat_le b 122
 
 abbrev pub is_digit : ℕ → Bool
 is_digit b = nat_le 48 b && nat_le b 57
 
 abbrev pub is_blank : ℕ → Bool
 is_blank b = b == 32 || b == 9
-
--- a byte of a name
-abbrev pub is_word : ℕ → Bool
-is_word b = is_letter b || (is_digit b || b == 95)
 
 -- how many bytes at the front are of a name, and how many are digits
 abbrev pub word_len : List ℕ → ℕ
@@ -80,7 +74,7 @@ mark b next =
 unfoldable pub token : List ℕ → Option Cut
 token [] = None
 token (b ∷ t) =
-    if is_letter b then word (b ∷ t)
+    if is_lower b then word (b ∷ t)
     else if is_digit b then positive (b ∷ t)
     else if b == 45 && is_digit (slice_index t 0) then negative t
     else mark b (slice_index t 0)
@@ -99,7 +93,3 @@ behind front more = option_map (λ ts. front ++ ts) more
 
 unfoldable pub lex : List ℕ → Option (List Tok)
 lex text = lex_from zero text
-
--- a name: a letter, then letters, digits and `_`, together at most 32 bytes
-unfoldable pub is_name : List ℕ → Bool
-is_name w = is_letter (slice_index w 0) && (word_len w == length w && nat_le (length w) 32)

@@ -1,7 +1,6 @@
 -- Expressions, from tokens.
-use Rattle.std.specs.Prelude.{ℕ, zero, suc, ◌+◌, ◌^◌, nat_lt, Bool, true, false, if◌then◌else◌, List, [], ◌∷◌, Option, Some, None, is_some, codes}
+use Rattle.std.specs.Prelude.{ℕ, zero, suc, ◌+◌, ◌^◌, nat_lt, Bool, true, false, if◌then◌else◌, List, [], ◌∷◌, Option, Some, None, codes}
 use Rattle.std.specs.Str.{bytes_eq}
-use Rattle.std.specs.List.{position}
 use Rattle.pm_scenario.specs.RuleAnswers.{◌>>=◌}
 use Rattle.pm_scenario.specs.RuleTokens.{Tok, name, number, symbol}
 use Rattle.pm_scenario.specs.declared.rule.token.Symbol.{Symbol}
@@ -49,13 +48,6 @@ name_at [] = None
 name_at (name w ∷ ts) = Some (w, ts)
 name_at (symbol s ∷ ts) = None
 name_at (number z ∷ ts) = None
-
--- the words that no sense can be named by
-abbrev pub reserved : List (List ℕ)
-reserved = codes "reg" ∷ codes "read" ∷ codes "scan" ∷ codes "let" ∷ codes "if" ∷ codes "else" ∷ codes "end" ∷ codes "set" ∷ codes "wait" ∷ codes "now" ∷ codes "me" ∷ codes "min" ∷ codes "max" ∷ []
-
-unfoldable pub is_reserved : List ℕ → Bool
-is_reserved w = is_some (position (λ r. bytes_eq w r) reserved)
 
 -- the first number of a name in a list that begins at number i, where it fits 32 bits
 abbrev pub in_u32 : ℕ → Option ℕ

@@ -1,11 +1,12 @@
 -- The program of a rule's text.
 use Rattle.std.specs.Prelude.{ℕ, ◌+◌, ◌==◌, nat_le, nat_lt, Bool, not, ◌&&◌, if◌then◌else◌, List, [], ◌∷◌, ◌++◌, length, map, Option, Some, None, is_some, codes}
 use Rattle.std.specs.Str.{bytes_eq}
+use Rattle.pm_base.specs.Names.{is_name, is_reserved}
 use Rattle.pm_scenario.specs.RuleAnswers.{◌>>=◌}
 use Rattle.pm_scenario.specs.RuleTokens.{Tok, name, number, symbol}
-use Rattle.pm_scenario.specs.RuleLexing.{lex, is_name}
+use Rattle.pm_scenario.specs.RuleLexing.{lex}
 use Rattle.pm_scenario.specs.RuleLines.{lines_of, code}
-use Rattle.pm_scenario.specs.RuleReading.{after, is_assign, is_comma, name_at, is_reserved, number_of, expression}
+use Rattle.pm_scenario.specs.RuleReading.{after, is_assign, is_comma, name_at, number_of, expression}
 use Rattle.pm_base.specs.declared.program.Program.{Program}
 use Rattle.pm_base.specs.declared.program.SenseRow.{SenseRow}
 use Rattle.pm_base.specs.declared.program.Expr.{Expr}

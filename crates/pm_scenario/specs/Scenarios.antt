@@ -1,11 +1,12 @@
 -- The plan of a scenario text of the form that is built so far.
-use Rattle.std.specs.Prelude.{ℕ, ◌==◌, ◌&&◌, pos, List, [], ◌∷◌, nat_le, codes, if◌then◌else◌, Option, Some, None}
+use Rattle.std.specs.Prelude.{ℕ, ◌==◌, ◌&&◌, pos, List, [], ◌∷◌, ◌++◌, nat_le, codes, if◌then◌else◌, Option, Some, None}
 use Rattle.std.specs.Str.{bytes_eq}
 use Rattle.toml.specs.Data.{Members}
 use Rattle.pm_base.specs.declared.program.Program.{Program}
 use Rattle.pm_plan.specs.declared.plan.Plan.{Plan}
 use Rattle.pm_scenario.specs.Documents.{document_of, key_count, text_at, name_at, count_at, table_at}
 use Rattle.pm_scenario.specs.RuleAnswers.{◌>>=◌}
+use Rattle.pm_scenario.specs.RuleSpell.{worked_program}
 use Rattle.pm_scenario.specs.RuleText.{rule_of}
 
 -- the horizon of a scenario of version 1
@@ -69,3 +70,12 @@ plan_of_root root = if key_count root == 5 then plan_of_parts root else None
 -- the plan of a text, or none where it isn't of the form that is built so far
 unfoldable pub plan_of : List ℕ → Option Plan
 plan_of bytes = document_of bytes >>= plan_of_root
+
+-- a worked scenario: an agent that counts in a variable
+abbrev pub worked_scenario : List ℕ
+worked_scenario =
+    codes "version = 1\nhorizon = 2\n[[clp]]\nname = \"root\"\n[[class]]\nname = \"cell\"\n[[class.var]]\nname = \"c0\"\nat = \"root\"\n" ++
+    codes "[[agent]]\nname = \"ant\"\nhome = \"root\"\nrule = \"\"\"\nread a = c0\nset c0 = (a.x + 1), 0\n\"\"\"\n"
+
+abbrev pub worked_plan : Plan
+worked_plan = plan_from 2 (codes "root") (codes "cell") (codes "c0") (codes "ant") worked_program

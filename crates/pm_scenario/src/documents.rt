@@ -73,7 +73,11 @@ pub fn key_count(table: &Table) -> usize
 fn with_keys(table: &Table, keys: usize) -> Option<&Table>
     ensures { option_map (λ t. table_view t.now) result ≡ with_keys keys (table_view table.now) }
 {
-    if key_count(table) == keys { Some(table) } else { None }
+    if key_count(table) == keys {
+        Some(table)
+    } else {
+        None
+    }
 }
 
 /// The table with so many keys, at a key that holds an array of it alone.

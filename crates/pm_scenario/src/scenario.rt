@@ -3,7 +3,7 @@ ghost use Rattle.std.specs.Option.{option_copied};
 ghost use Rattle.toml.specs.View.{table_view};
 ghost use Rattle.pm_plan.specs.Limits.{IsWithinLimits};
 ghost use Rattle.pm_scenario.specs.RuleText.{rule_of};
-ghost use Rattle.pm_scenario.specs.Scenarios.{horizon_of, clp_of, class_of, agent_of, plan_from, plan_of_parts, plan_of_root, plan_of};
+ghost use Rattle.pm_scenario.specs.Scenarios.{horizon_of, clp_of, class_of, agent_of, plan_from, plan_of_parts, plan_of_root, plan_of, worked_scenario, worked_plan};
 
 use crate::documents::{count_at, document, key_count, name_at, table_at, text_at};
 use crate::rule::rule_of;
@@ -75,7 +75,11 @@ fn agent_of<'a>(clp: &str, root: &'a Table) -> Option<(&'a str, &'a str)>
     let name = name_at(table, "name")?;
     let rule = text_at(table, "rule")?;
     let home = text_at(table, "home")?;
-    if home == clp { Some((name, rule)) } else { None }
+    if home == clp {
+        Some((name, rule))
+    } else {
+        None
+    }
 }
 
 fn one<T: Drop>(alloc: Global, item: T) -> Result<List<T>, Memory>
@@ -194,3 +198,8 @@ pub fn read(alloc: Global, bytes: &[u8]) -> Result<Plan, ScenarioFault>
         None => Err(ScenarioFault::NotBuilt),
     }
 }
+
+/// What a text is read as: the scenario of one agent that counts in a variable.
+pub fn a_worked_scenario()
+    ensures { plan_of worked_scenario ≡ Some worked_plan }
+{}

@@ -2,7 +2,7 @@ ghost use Rattle.std.specs.Prelude.{◌≡◌, IfOk, IfErr, option_map, Some, No
 ghost use Rattle.std.specs.Str.{bytes_eq};
 ghost use Rattle.pm_scenario.specs.RuleAnswers.{Gives};
 ghost use Rattle.pm_scenario.specs.RuleTokens.{tok, toks};
-ghost use Rattle.pm_scenario.specs.RuleReading.{after, is_open, is_close, is_dot, is_plus, is_comma, is_assign, name_at, field_named, is_reserved, number_of, part, closed, expression};
+ghost use Rattle.pm_scenario.specs.RuleReading.{after, is_open, is_close, is_dot, is_plus, is_comma, is_assign, name_at, field_named, number_of, part, closed, expression};
 ghost use Rattle.pm_scenario.specs.RuleText.{sense_names};
 ghost use Rattle.pm_base.specs.declared.program.Expr.TheVariants.{Bin};
 ghost use Rattle.pm_base.specs.declared.program.Op.TheVariants as op;
@@ -19,52 +19,52 @@ pub fn same(a: &[u8], b: &[u8]) -> bool
 }
 
 #[tactic(auto, unfolding(crate::specs::RuleReading::after))]
-fn after_dot<'a, 'b>(tokens: &'b [Token<'a>]) -> Result<&'b [Token<'a>], Stop>
-    ensures { Gives (λ r. toks r.now) result (after is_dot (toks tokens.now)) }
+fn after_dot<'a, 'b>(tokens: &'b [Token<'a>]) -> Option<&'b [Token<'a>]>
+    ensures { option_map (λ r. toks r.now) result ≡ after is_dot (toks tokens.now) }
 {
     match tokens {
-        [Token::Symbol(Symbol::Dot), rest @ ..] => Ok(rest),
-        _ => Err(Stop::Word),
+        [Token::Symbol(Symbol::Dot), rest @ ..] => Some(rest),
+        _ => None,
     }
 }
 
 #[tactic(auto, unfolding(crate::specs::RuleReading::after))]
-fn after_plus<'a, 'b>(tokens: &'b [Token<'a>]) -> Result<&'b [Token<'a>], Stop>
-    ensures { Gives (λ r. toks r.now) result (after is_plus (toks tokens.now)) }
+fn after_plus<'a, 'b>(tokens: &'b [Token<'a>]) -> Option<&'b [Token<'a>]>
+    ensures { option_map (λ r. toks r.now) result ≡ after is_plus (toks tokens.now) }
 {
     match tokens {
-        [Token::Symbol(Symbol::Plus), rest @ ..] => Ok(rest),
-        _ => Err(Stop::Word),
+        [Token::Symbol(Symbol::Plus), rest @ ..] => Some(rest),
+        _ => None,
     }
 }
 
 #[tactic(auto, unfolding(crate::specs::RuleReading::after))]
-fn after_close<'a, 'b>(tokens: &'b [Token<'a>]) -> Result<&'b [Token<'a>], Stop>
-    ensures { Gives (λ r. toks r.now) result (after is_close (toks tokens.now)) }
+fn after_close<'a, 'b>(tokens: &'b [Token<'a>]) -> Option<&'b [Token<'a>]>
+    ensures { option_map (λ r. toks r.now) result ≡ after is_close (toks tokens.now) }
 {
     match tokens {
-        [Token::Symbol(Symbol::Close), rest @ ..] => Ok(rest),
-        _ => Err(Stop::Word),
+        [Token::Symbol(Symbol::Close), rest @ ..] => Some(rest),
+        _ => None,
     }
 }
 
 #[tactic(auto, unfolding(crate::specs::RuleReading::after))]
-pub fn after_comma<'a, 'b>(tokens: &'b [Token<'a>]) -> Result<&'b [Token<'a>], Stop>
-    ensures { Gives (λ r. toks r.now) result (after is_comma (toks tokens.now)) }
+pub fn after_comma<'a, 'b>(tokens: &'b [Token<'a>]) -> Option<&'b [Token<'a>]>
+    ensures { option_map (λ r. toks r.now) result ≡ after is_comma (toks tokens.now) }
 {
     match tokens {
-        [Token::Symbol(Symbol::Comma), rest @ ..] => Ok(rest),
-        _ => Err(Stop::Word),
+        [Token::Symbol(Symbol::Comma), rest @ ..] => Some(rest),
+        _ => None,
     }
 }
 
 #[tactic(auto, unfolding(crate::specs::RuleReading::after))]
-pub fn after_assign<'a, 'b>(tokens: &'b [Token<'a>]) -> Result<&'b [Token<'a>], Stop>
-    ensures { Gives (λ r. toks r.now) result (after is_assign (toks tokens.now)) }
+pub fn after_assign<'a, 'b>(tokens: &'b [Token<'a>]) -> Option<&'b [Token<'a>]>
+    ensures { option_map (λ r. toks r.now) result ≡ after is_assign (toks tokens.now) }
 {
     match tokens {
-        [Token::Symbol(Symbol::Assign), rest @ ..] => Ok(rest),
-        _ => Err(Stop::Word),
+        [Token::Symbol(Symbol::Assign), rest @ ..] => Some(rest),
+        _ => None,
     }
 }
 
@@ -72,44 +72,25 @@ pub fn after_assign<'a, 'b>(tokens: &'b [Token<'a>]) -> Result<&'b [Token<'a>], 
 type Named<'a, 'b> = (&'a [u8], &'b [Token<'a>]);
 
 #[tactic(auto, unfolding(crate::specs::RuleReading::name_at))]
-pub fn name_at<'a, 'b>(tokens: &'b [Token<'a>]) -> Result<Named<'a, 'b>, Stop>
-    ensures { Gives (λ r. (r.0.now, toks r.1.now)) result (name_at (toks tokens.now)) }
+pub fn name_at<'a, 'b>(tokens: &'b [Token<'a>]) -> Option<Named<'a, 'b>>
+    ensures { option_map (λ r. (r.0.now, toks r.1.now)) result ≡ name_at (toks tokens.now) }
 {
     match tokens {
-        [Token::Name(word), rest @ ..] => Ok((word, rest)),
-        _ => Err(Stop::Word),
+        [Token::Name(word), rest @ ..] => Some((word, rest)),
+        _ => None,
     }
 }
 
-fn field_named(word: &[u8]) -> Result<Field, Stop>
-    ensures { Gives (λ f. f) result (field_named word.now) }
+fn field_named(word: &[u8]) -> Option<Field>
+    ensures { result ≡ field_named word.now }
 {
     if same(word, b"x") {
-        Ok(Field::X)
+        Some(Field::X)
     } else if same(word, b"y") {
-        Ok(Field::Y)
+        Some(Field::Y)
     } else {
-        Err(Stop::Word)
+        None
     }
-}
-
-#[tactic(auto, unfolding(crate::specs::RuleReading::is_reserved))]
-pub fn is_reserved(word: &[u8]) -> bool
-    ensures { result ≡ is_reserved word.now }
-{
-    same(word, b"reg")
-        || same(word, b"read")
-        || same(word, b"scan")
-        || same(word, b"let")
-        || same(word, b"if")
-        || same(word, b"else")
-        || same(word, b"end")
-        || same(word, b"set")
-        || same(word, b"wait")
-        || same(word, b"now")
-        || same(word, b"me")
-        || same(word, b"min")
-        || same(word, b"max")
 }
 
 /// The number of a variable's name.
@@ -142,20 +123,14 @@ pub fn sense_number(senses: &[SenseRow], word: &[u8]) -> Option<u32>
 type Found<'a, 'b> = (Expr, &'b [Token<'a>]);
 
 #[tactic(auto, unfolding(crate::specs::RuleReading::part))]
-fn part<'a, 'b>(
-    senses: &[SenseRow],
-    word: &[u8],
-    tokens: &'b [Token<'a>],
-) -> Result<Found<'a, 'b>, Stop>
-    ensures { Gives (λ r. (r.0, toks r.1.now)) result (part (sense_names senses.now) word.now (toks tokens.now)) }
+fn part<'a, 'b>(senses: &[SenseRow], word: &[u8], tokens: &'b [Token<'a>]) -> Option<Found<'a, 'b>>
+    ensures { option_map (λ r. (r.0, toks r.1.now)) result ≡ part (sense_names senses.now) word.now (toks tokens.now) }
 {
     let dotted = after_dot(tokens)?;
     let (field, rest) = name_at(dotted)?;
-    let Some(sense) = sense_number(senses, word) else {
-        return Err(Stop::Word);
-    };
+    let sense = sense_number(senses, word)?;
     let field = field_named(field)?;
-    Ok((Expr::Part { sense, field }, rest))
+    Some((Expr::Part { sense, field }, rest))
 }
 
 fn sum(alloc: Global, left: Expr, right: Expr) -> Result<Expr, Memory>
@@ -179,7 +154,7 @@ fn closed<'a, 'b>(
 ) -> Result<Found<'a, 'b>, Stop>
     ensures { Gives (λ r. (r.0, toks r.1.now)) result (closed left right (toks tokens.now)) }
 {
-    let rest = after_close(tokens)?;
+    let rest = after_close(tokens).ok_or(Stop::Word)?;
     Ok((sum(alloc, left, right)?, rest))
 }
 
@@ -199,10 +174,10 @@ pub fn expression<'a, 'b>(
     match tokens {
         [] => Err(Stop::Word),
         [Token::Number(n), rest @ ..] => Ok((Expr::Num(*n), rest)),
-        [Token::Name(word), rest @ ..] => part(senses, word, rest),
+        [Token::Name(word), rest @ ..] => part(senses, word, rest).ok_or(Stop::Word),
         [Token::Symbol(Symbol::Open), rest @ ..] => {
             let (left, rest) = expression(alloc, senses, levels - 1, rest)?;
-            let rest = after_plus(rest)?;
+            let rest = after_plus(rest).ok_or(Stop::Word)?;
             let (right, rest) = expression(alloc, senses, levels - 1, rest)?;
             closed(alloc, left, right, rest)
         }

@@ -1,15 +1,16 @@
-ghost use Rattle.std.specs.Prelude.{◌≡◌, ◌<◌, ◌≤◌, ◌+◌, ◌^◌, length, option_map, IfSome, IfOk, IsTrue, slice_index, OnOk, ◌++◌, ◌∷◌, [], drop, ◌⊎◌};
+ghost use Rattle.std.specs.Prelude.{◌≡◌, ◌<◌, ◌≤◌, ◌+◌, ◌^◌, length, option_map, IfSome, slice_index, OnOk, Some, None, if◌then◌else◌, ◌++◌, ◌∷◌, [], drop, ◌⊎◌};
 ghost use Rattle.pm_scenario.specs.RuleTokens.{tok, toks, symbol};
 ghost use Rattle.pm_scenario.specs.RuleAnswers.{Gives};
-ghost use Rattle.pm_scenario.specs.RuleLexing.{is_letter, is_digit, is_blank, is_word, word_len, digits_len, at_most, digits, positive, negative, word, mark, token, lex, is_name};
+ghost use Rattle.pm_base.specs.Names.{is_lower, is_word, is_name};
+ghost use Rattle.pm_scenario.specs.RuleLexing.{is_digit, is_blank, word_len, digits_len, at_most, digits, positive, negative, word, mark, token, lex};
 
 use crate::rule::stop::Stop;
 use crate::rule::token::{Symbol, Token};
-use pm_base::{Memory, Name};
+use pm_base::{Memory, is_name};
 use std::alloc::Global;
 
-fn is_letter(b: u8) -> bool
-    ensures { result ≡ is_letter b }
+fn is_lower(b: u8) -> bool
+    ensures { result ≡ is_lower b }
 {
     97 <= b && b <= 122
 }
@@ -23,7 +24,7 @@ fn is_digit(b: u8) -> bool
 fn is_word(b: u8) -> bool
     ensures { result ≡ is_word b }
 {
-    is_letter(b) || is_digit(b) || b == b'_'
+    (is_lower(b) || is_digit(b)) || b == b'_'
 }
 
 fn word_len(text: &[u8]) -> usize
@@ -159,7 +160,7 @@ fn token<'a>(text: &'a [u8]) -> Option<(Token<'a>, usize)>
     ensures within { IfSome result (λ p. (1 ≤ p.1) × (p.1 ≤ length text.now)) }
 {
     let (b, rest) = text.split_first()?;
-    if is_letter(*b) {
+    if is_lower(*b) {
         word(text)
     } else if is_digit(*b) {
         positive(text)
@@ -222,28 +223,12 @@ fn push<'a>(out: &mut Vec<Token<'a>>, token: Token<'a>) -> Result<(), Memory>
     Ok(())
 }
 
-/// Whether the bytes are a name: a letter, then letters, digits and `_`, together at most 32 bytes.
-#[tactic(auto, unfolding(crate::specs::RuleLexing::is_name))]
-pub fn is_name(word: &[u8]) -> bool
-    ensures { result ≡ is_name word.now }
+/// The bytes as text, where they are a name.
+pub fn name_of(word: &[u8]) -> Option<&str>
+    ensures { option_map (λ t. t.now) result ≡ (if is_name word.now then Some word.now else None) }
 {
-    starts_with_letter(word) && word_len(word) == word.len() && word.len() <= 32
-}
-
-fn starts_with_letter(text: &[u8]) -> bool
-    ensures { result ≡ is_letter (slice_index text.now 0) }
-{
-    match text.first() {
-        Some(b) => is_letter(*b),
-        None => false,
+    match std::str::from_utf8(word) {
+        Ok(text) => { if is_name(text) { Some(text) } else { None } }
+        Err(_) => None,
     }
-}
-
-/// The name of these bytes.
-pub fn name_of(alloc: Global, word: &[u8]) -> Result<Name, Memory>
-    requires { IsTrue (is_name word.now) }
-    ensures { IfOk result (λ n. n ≡ word.now) }
-{
-    let text = std::str::from_utf8(word).unwrap();
-    Name::make(alloc, text)
 }

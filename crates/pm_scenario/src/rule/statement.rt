@@ -1,25 +1,29 @@
-ghost use Rattle.std.specs.Prelude.{◌≡◌, IfOk, IsTrue, codes};
+ghost use Rattle.std.specs.Prelude.{◌≡◌, Some, None, option_map, if◌then◌else◌, codes};
 ghost use Rattle.std.specs.Str.{bytes_eq};
 ghost use Rattle.pm_scenario.specs.RuleAnswers.{Gives};
 ghost use Rattle.pm_scenario.specs.RuleTokens.{tok, toks};
-ghost use Rattle.pm_scenario.specs.RuleLexing.{is_name};
 ghost use Rattle.pm_scenario.specs.RuleText.{sense_names, is_free, takes_sense, with_sense, whole, read_line, pair, set_line, statement};
 
 use crate::rule::expression::{
-    after_assign, after_comma, expression, is_reserved, name_at, number_of, same, sense_number,
+    after_assign, after_comma, expression, name_at, number_of, same, sense_number,
 };
-use crate::rule::lexing::{is_name, name_of};
+use crate::rule::lexing::name_of;
 use crate::rule::stop::Stop;
 use crate::rule::token::Token;
-use pm_base::{Expr, Name, Place, Program, Sense, SenseRow, Stmt};
+use pm_base::{Expr, Name, Place, Program, Sense, SenseRow, Stmt, is_reserved};
 use std::alloc::Global;
 
+/// The bytes as text, where a sense beside these can have them as its name.
 #[tactic(auto, unfolding(crate::specs::RuleText::is_free))]
-fn is_free(senses: &[SenseRow], word: &[u8]) -> bool
-    ensures value { result ≡ is_free (sense_names senses.now) word.now }
-    ensures named { IsTrue result → IsTrue (is_name word.now) }
+fn free_name<'a>(senses: &[SenseRow], word: &'a [u8]) -> Option<&'a str>
+    ensures { option_map (λ t. t.now) result ≡ (if is_free (sense_names senses.now) word.now then Some word.now else None) }
 {
-    is_name(word) && !is_reserved(word) && sense_number(senses, word).is_none()
+    let name = name_of(word)?;
+    if is_reserved(name) || sense_number(senses, word).is_some() {
+        None
+    } else {
+        Some(name)
+    }
 }
 
 /// One more sense, which reads a variable.
@@ -33,16 +37,12 @@ fn with_sense(
 ) -> Result<Program, Stop>
     ensures { Gives (λ p. p) result (with_sense vars.now program word.now var.now) }
 {
-    if program.body.len() > 0
-        || program.senses.len() >= 16
-        || !is_free(program.senses.as_slice(), word)
-    {
+    if program.body.len() > 0 || program.senses.len() >= 16 {
         return Err(Stop::Word);
     }
-    let Some(var) = number_of(vars, var) else {
-        return Err(Stop::Word);
-    };
-    let name = name_of(alloc, word)?;
+    let name = free_name(program.senses.as_slice(), word).ok_or(Stop::Word)?;
+    let var = number_of(vars, var).ok_or(Stop::Word)?;
+    let name = Name::make(alloc, name)?;
     let sense = Sense::Read {
         place: Place::Var { var },
     };
@@ -61,9 +61,9 @@ fn read_line<'a>(
 ) -> Result<Program, Stop>
     ensures { Gives (λ p. p) result (read_line vars.now program (toks tokens.now)) }
 {
-    let (word, rest) = name_at(tokens)?;
-    let rest = after_assign(rest)?;
-    let (var, rest) = name_at(rest)?;
+    let (word, rest) = name_at(tokens).ok_or(Stop::Word)?;
+    let rest = after_assign(rest).ok_or(Stop::Word)?;
+    let (var, rest) = name_at(rest).ok_or(Stop::Word)?;
     if !rest.is_empty() {
         return Err(Stop::Word);
     }
@@ -76,7 +76,7 @@ fn pair<'a>(alloc: Global, senses: &[SenseRow], tokens: &[Token<'a>]) -> Result<
     ensures { Gives (λ r. r) result (pair (sense_names senses.now) (toks tokens.now)) }
 {
     let (x, rest) = expression(alloc, senses, 64, tokens)?;
-    let rest = after_comma(rest)?;
+    let rest = after_comma(rest).ok_or(Stop::Word)?;
     let (y, rest) = expression(alloc, senses, 64, rest)?;
     if !rest.is_empty() {
         return Err(Stop::Word);
@@ -94,12 +94,10 @@ fn set_line<'a>(
 ) -> Result<Program, Stop>
     ensures { Gives (λ p. p) result (set_line vars.now program (toks tokens.now)) }
 {
-    let (word, rest) = name_at(tokens)?;
-    let rest = after_assign(rest)?;
+    let (word, rest) = name_at(tokens).ok_or(Stop::Word)?;
+    let rest = after_assign(rest).ok_or(Stop::Word)?;
     let (x, y) = pair(alloc, program.senses.as_slice(), rest)?;
-    let Some(var) = number_of(vars, word) else {
-        return Err(Stop::Word);
-    };
+    let var = number_of(vars, word).ok_or(Stop::Word)?;
     let mut program = program;
     program.body.push(Stmt::Set {
         place: Place::Var { var },
