@@ -33,6 +33,16 @@ impl ClassRow {
 }
 
 impl Layout {
+    /// The members of a class; none where there is no such class.
+    pub fn class_row(&self, class: u32) -> ClassRow
+        ensures { result ≡ class_row self.now.classes class }
+    {
+        match self.classes.get(class as usize) {
+            Some(row) => *row,
+            None => ClassRow { first: 0, count: 0 },
+        }
+    }
+
     /// The member of a class that an index names: the class's first variable and, from there, the Euclidean remainder
     /// of the index by the class's count. The class exists and has a member.
     #[tactic(auto, using(crate::proofs::Classes::member_steps))]
@@ -42,7 +52,7 @@ impl Layout {
         ensures value { result ≡ member_of (class_row self.now.classes class) e }
         ensures member { IsMember (class_row self.now.classes class) result }
     {
-        class_row(self.classes.as_slice(), class).member(e)
+        self.class_row(class).member(e)
     }
 
     /// How many variables there are.
@@ -65,15 +75,6 @@ impl Layout {
         ensures class { IsClassOf self.now.classes var result }
     {
         class_of(self.classes.as_slice(), var)
-    }
-}
-
-fn class_row(classes: &[ClassRow], class: u32) -> ClassRow
-    ensures { result ≡ class_row classes.now class }
-{
-    match classes.get(class as usize) {
-        Some(row) => *row,
-        None => ClassRow { first: 0, count: 0 },
     }
 }
 

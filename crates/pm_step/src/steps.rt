@@ -1,5 +1,5 @@
 ghost use Rattle.std.specs.Prelude.{◌≡◌, ◌<◌, ◌≤◌, ◌^◌, IfOk, OnOk, [], length, drop};
-ghost use Rattle.pm_base.specs.Layouts.{IsLayout, class_row};
+ghost use Rattle.pm_base.specs.Layouts.{IsLayout};
 ghost use Rattle.pm_step.specs.Writes.{begins_with, place_of};
 ghost use Rattle.pm_step.specs.Expressions.{seen, sight};
 ghost use Rattle.pm_step.specs.Steps.{act_of, does, does_all, no_deeds, pair, query_of, step, variable, with_change, written, IsRising};
@@ -7,19 +7,10 @@ ghost use Rattle.pm_step.specs.Steps.{act_of, does, does_all, no_deeds, pair, qu
 use crate::expressions::{Scene, value};
 use crate::{Act, Deeds, Next};
 use pm_base::{
-    Change, ClassRow, Expr, Hit, Layout, List, Memory, Place, Program, Query, Sense, Stamp, Stmt,
-    Value, Window, Write,
+    Change, Expr, Hit, Layout, List, Memory, Place, Program, Query, Sense, Stamp, Stmt, Value,
+    Window, Write,
 };
 use std::alloc::Global;
-
-fn class_row(classes: &List<ClassRow>, class: u32) -> ClassRow
-    ensures { result ≡ class_row classes.now class }
-{
-    match classes.get(class as usize) {
-        Some(row) => *row,
-        None => ClassRow { first: 0, count: 0 },
-    }
-}
 
 fn variable(scene: &Scene<'_>, regs: &List<i64>, place: &Place) -> u32
     requires time { scene.now.stamp.time < 2 ^ 63 }
@@ -30,7 +21,7 @@ fn variable(scene: &Scene<'_>, regs: &List<i64>, place: &Place) -> u32
         Place::Var { var } => *var,
         Place::Member { class, at } => {
             let e = value(scene, regs, at);
-            class_row(&scene.layout.classes, *class).member(e)
+            scene.layout.class_row(*class).member(e)
         }
     }
 }

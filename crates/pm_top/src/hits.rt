@@ -1,20 +1,11 @@
 ghost use Rattle.std.specs.Prelude.{◌≡◌, ◌++◌, ◌+◌, ◌<◌, ◌≤◌, ◌^◌, IfOk, OnOk, slice_get};
-ghost use Rattle.pm_base.specs.Layouts.{IsLayout, class_row};
+ghost use Rattle.pm_base.specs.Layouts.{IsLayout};
 ghost use Rattle.pm_base.specs.declared.value.Query.TheVariants as query;
 ghost use Rattle.pm_model.specs.Hits.{hits};
 ghost use Rattle.pm_model.proofs.HitLaws.{shown, shown_in};
 
-use pm_base::{ClassRow, Hit, Layout, List, Memory, Query, Value, Window};
+use pm_base::{Hit, Layout, List, Memory, Query, Value, Window};
 use std::alloc::Global;
-
-fn class_row(classes: &[ClassRow], class: u32) -> ClassRow
-    ensures { result ≡ class_row classes.now class }
-{
-    match classes.get(class as usize) {
-        Some(row) => *row,
-        None => ClassRow { first: 0, count: 0 },
-    }
-}
 
 fn value_at(values: &[Value], var: u32) -> Option<Value>
     ensures { result ≡ slice_get values.now var }
@@ -75,7 +66,7 @@ fn class_hits(
     requires { IsLayout layout.now }
     ensures { IfOk result (λ h. h ≡ hits layout.now.classes values.now (query.Class class window.now)) }
 {
-    let row = class_row(layout.classes.as_slice(), class);
+    let row = layout.class_row(class);
     let mut hits = List::new(alloc);
     for var in row.first..row.first + row.count {
         add_inside(&mut hits, values, var, window)?;

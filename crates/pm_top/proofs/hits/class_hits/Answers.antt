@@ -9,7 +9,7 @@ use Rattle.pm_top.proofs.hits.class_hits.Goals as goal
 
 pub overflow_add-var-end : goal.overflow_add-var-end
 overflow_add-var-end c =
-    let row : c.class_row-row.result ≡ class_row c.args.layout.now.classes c.args.class = rw c.as_slice.ensures at c.class_row-row.ensures in
+    let row : c.class_row-row.result ≡ class_row c.args.layout.now.classes c.args.class = c.class_row-row.ensures in
     let below = row_under 0 c.args.layout.now.classes c.requires.follow c.args.class in
     let first : c.class_row-row.result.first ≡ (class_row c.args.layout.now.classes c.args.class).first = ap (λ (r : ClassRow). r.first) row in
     let count : c.class_row-row.result.count ≡ (class_row c.args.layout.now.classes c.args.class).count = ap (λ (r : ClassRow). r.count) row in
@@ -17,14 +17,14 @@ overflow_add-var-end c =
 
 pub loop-var-init : goal.loop-var-init
 loop-var-init c =
-    let row : c.class_row-row.result ≡ class_row c.args.layout.now.classes c.args.class = rw c.as_slice.ensures at c.class_row-row.ensures in
+    let row : c.class_row-row.result ≡ class_row c.args.layout.now.classes c.args.class = c.class_row-row.ensures in
     c.new-hits.ensures
     ∙ sym (hits_to-first c.args.layout.now.classes c.args.values.now c.args.class c.args.window.now)
     ∙ ap (λ (r : ClassRow). hits_to c.args.layout.now.classes c.args.values.now (query.Class c.args.class c.args.window.now) r.first) (sym row)
 
 pub loop-var-preserved : goal.loop-var-preserved
 loop-var-preserved c =
-    let row : c.class_row-row.result ≡ class_row c.args.layout.now.classes c.args.class = rw c.as_slice.ensures at c.class_row-row.ensures in
+    let row : c.class_row-row.result ≡ class_row c.args.layout.now.classes c.args.class = c.class_row-row.ensures in
     let first : c.class_row-row.result.first ≡ (class_row c.args.layout.now.classes c.args.class).first = ap (λ (r : ClassRow). r.first) row in
     let count : c.class_row-row.result.count ≡ (class_row c.args.layout.now.classes c.args.class).count = ap (λ (r : ClassRow). r.count) row in
     let from : (class_row c.args.layout.now.classes c.args.class).first ≤ c.loop-var.var = omega (arith, first) in
@@ -35,7 +35,7 @@ loop-var-preserved c =
 
 pub returns : goal.returns
 returns c =
-    let row : c.class_row-row.result ≡ class_row c.args.layout.now.classes c.args.class = rw c.as_slice.ensures at c.class_row-row.ensures in
+    let row : c.class_row-row.result ≡ class_row c.args.layout.now.classes c.args.class = c.class_row-row.ensures in
     let first : c.class_row-row.result.first ≡ (class_row c.args.layout.now.classes c.args.class).first = ap (λ (r : ClassRow). r.first) row in
     let count : c.class_row-row.result.count ≡ (class_row c.args.layout.now.classes c.args.class).count = ap (λ (r : ClassRow). r.count) row in
     let end : c.loop-var.var ≡ (class_row c.args.layout.now.classes c.args.class).first + (class_row c.args.layout.now.classes c.args.class).count = omega (arith, first, count) in
