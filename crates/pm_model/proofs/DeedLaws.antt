@@ -1,5 +1,5 @@
 -- A whole step, one query at a time.
-use Rattle.std.proofs.Common.{◌≡◌, ℕ, zero, suc, ◌+◌, ◌-◌, ◌<◌, ◌≤◌, List, [], ◌∷◌, ◌++◌, length, length-append, Option, Some, None, refl, sym, ap, ◌∙◌, arith}
+use Rattle.std.proofs.Common.{◌≡◌, ℕ, suc, ◌-◌, ◌<◌, List, [], ◌∷◌, ◌++◌, length, length-append, Option, Some, ap, ◌∙◌, arith}
 use Rattle.pm_base.specs.declared.rows.Act.{Act}
 use Rattle.pm_base.specs.declared.value.Hit.{Hit}
 use Rattle.pm_base.specs.declared.value.Query.{Query}

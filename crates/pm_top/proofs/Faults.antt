@@ -1,5 +1,5 @@
 -- What a write of a line leaves.
-use Rattle.std.proofs.Common.{ℕ, ◌⊎◌, inl, inr, List, Option, Result, Ok, Err, OnOk, OnErr}
+use Rattle.std.proofs.Common.{ℕ, inl, inr, List, Option, Result, Ok, Err, OnOk, OnErr}
 use Rattle.std.specs.Io.KnownBytes.{Appends}
 use Rattle.pm_io.specs.Causes.{AppendsPart}
 use Rattle.pm_io.proofs.Known.{prefix-part}

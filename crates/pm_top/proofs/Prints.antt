@@ -1,12 +1,11 @@
 -- What is printed of a scenario that the input held.
-use Rattle.std.proofs.Common.{◌≡◌, ℕ, ◌<◌, ◌≤◌, List, length, Option, Some, None, IfSome, refl, sym, ap, ◌∙◌, subst, arith, append-nil, length-append}
-use Rattle.std.specs.Io.KnownBytes.{Appends, Consumes, IsAtEnd}
+use Rattle.std.proofs.Common.{◌≡◌, ℕ, ◌≤◌, List, length, Option, Some, None, IfSome, sym, ap, subst, arith, length-append}
 use Rattle.pm_io.specs.Causes.{AppendsPrefix}
 use Rattle.pm_io.proofs.Known.{prefix-none, consumes-all}
 use Rattle.pm_plan.specs.declared.plan.Plan.{Plan}
 use Rattle.pm_scenario.specs.Scenarios.{plan_of}
 use Rattle.pm_model.specs.Traces.{trace}
-use Rattle.pm_top.specs.Headline.{PrintsTrace, PrintsPrefix, IsAccepted, IsRefused, IsTooLong}
+use Rattle.pm_top.specs.Headline.{PrintsPrefix, IsAccepted, IsRefused, IsTooLong}
 use Rattle.pm_top.specs.Readings.{IsReadWhole, IsReadPast}
 
 of-plan : (o : Option Plan) (old : Option (List ℕ)) → IfSome o (λ p. AppendsPrefix old old (trace p))

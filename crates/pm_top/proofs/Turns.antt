@@ -1,7 +1,6 @@
 -- A turn from its parts.
-use Rattle.std.proofs.Common.{◌≡◌, ℕ, ◌≤◌, ℤ, List, [], ◌∷◌, set, Option, Some, None, IfSome, option_map, refl, ap, sym, ◌∙◌}
+use Rattle.std.proofs.Common.{◌≡◌, ℤ, List, Some, None, option_map, ap, ◌∙◌}
 use Rattle.std.specs.Prelude.{slice_get, option_and_then}
-use Rattle.std.specs.List.{AllByRecursion}
 use Rattle.pm_base.specs.declared.layout.ClassRow.{ClassRow}
 use Rattle.pm_base.specs.declared.program.Program.{Program}
 use Rattle.pm_base.specs.declared.stamp.Stamp.{Stamp}
@@ -11,8 +10,7 @@ use Rattle.pm_plan.specs.declared.plan.Plan.{Plan}
 use Rattle.pm_model.specs.declared.AgentState.{AgentState}
 use Rattle.pm_model.specs.declared.Deed.{Deed}
 use Rattle.pm_model.specs.declared.State.{State}
-use Rattle.pm_model.specs.Runs.{Moved, Scene, IsTimely, turn, turn_at, least_stamp, moved, deed, scene_of}
-use Rattle.pm_model.proofs.Turns.{least-due}
+use Rattle.pm_model.specs.Runs.{Scene, turn, turn_at, least_stamp, moved, deed, scene_of}
 
 -- what a step sees, by its parts
 abbrev pub scene : Program → List ClassRow → List Value → Stamp → List ℤ → Scene

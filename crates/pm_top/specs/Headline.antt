@@ -1,13 +1,12 @@
 -- What the program promises of a call.
 use Rattle.std.specs.Prelude.{◌≡◌, ℕ, ◌<◌, ◌≤◌, ◌⊎◌, List, [], ◌∷◌, length, Bool, false, Option, Some, None, IfSome, String, string_bytes, codes}
 use Rattle.std.specs.Str.{bytes_eq}
-use Rattle.std.specs.Io.KnownBytes.{Appends, IsAtEnd}
+use Rattle.std.specs.Io.KnownBytes.{Appends}
 use Rattle.std.specs.declared.alloc.Global.{Global}
 use Rattle.pm_io.specs.Causes.{AppendsPrefix}
 use Rattle.pm_plan.specs.declared.plan.Plan.{Plan}
 use Rattle.pm_scenario.specs.Scenarios.{plan_of}
 use Rattle.pm_model.specs.Traces.{trace}
-use Rattle.pm_top.specs.Endings.{status_of, error_line}
 use Rattle.pm_top.specs.declared.outcome.Ending.{Ending}
 use Rattle.pm_top.specs.declared.outcome.Ending.TheVariants as ending
 

@@ -1,4 +1,4 @@
-use Rattle.std.proofs.Common.{◌≡◌, ◌∙◌, sym, ap, arith, ◌+◌, ◌≤◌, ◌<◌, ◌++◌, ℕ}
+use Rattle.std.proofs.Common.{◌≡◌, ◌∙◌, sym, ap, arith, ◌+◌, ◌≤◌, ◌<◌, ◌++◌}
 use Rattle.std.specs.Prelude.{slice_get}
 use Rattle.pm_base.specs.Layouts.{class_row}
 use Rattle.pm_base.specs.declared.layout.ClassRow.{ClassRow}

@@ -1,4 +1,4 @@
-use Rattle.std.proofs.Common.{Some, refl, subst}
+use Rattle.std.proofs.Common.{Some, subst}
 use Rattle.pm_top.specs.Headline.{EndsRun, IsAccepted, IsRefused, PrintsPrefix, PrintsTrace}
 use Rattle.pm_top.proofs.Endings.{runs-nothing}
 use Rattle.pm_top.proofs.Prints.{accepted-is, held-too-long, of-held, prints-none, refused-is}

@@ -1,4 +1,4 @@
-use Rattle.std.proofs.Common.{◌≡◌, ◌<◌, ◌+◌, refl, sym, ap, subst, arith}
+use Rattle.std.proofs.Common.{◌<◌, ◌+◌, refl, ap, subst, arith}
 use Rattle.pm_model.specs.declared.State.{State}
 use Rattle.pm_model.specs.Runs.{IsTimely, work}
 use Rattle.pm_model.proofs.Turns.{turn-falls}

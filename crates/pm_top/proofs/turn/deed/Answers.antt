@@ -1,8 +1,6 @@
-use Rattle.std.proofs.Common.{◌≡◌, ◌∙◌, sym, ap, arith, ◌<◌, length, length-append, ◌++◌, ◌∷◌, []}
-use Rattle.pm_base.specs.declared.value.Hit.{Hit}
+use Rattle.std.proofs.Common.{◌∙◌, sym, ap, arith, length, length-append, ◌++◌, ◌∷◌, []}
 use Rattle.pm_step.specs.Expressions.{sight}
 use Rattle.pm_step.proofs.StepLaws.{asks_in}
-use Rattle.pm_model.specs.Hits.{hits}
 use Rattle.pm_model.proofs.DeedLaws.{deed_after, deed-first, deed-asks-after, deed-acts-after}
 use Rattle.pm_top.proofs.Turns.{scene}
 use Rattle.pm_top.proofs.turn.deed.Goals as goal

@@ -1,5 +1,5 @@
 use Rattle.std.proofs.Common.{◌≡◌, ◌-◌, length}
-use Rattle.pm_model.specs.Runs.{Scene, deed}
+use Rattle.pm_model.specs.Runs.{deed}
 use Rattle.pm_model.proofs.DeedLaws.{deed_after}
 use Rattle.pm_top.proofs.Turns.{scene}
 use Rattle.pm_top.proofs.turn.deed.Given as goal
