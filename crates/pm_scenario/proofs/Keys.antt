@@ -1,5 +1,5 @@
 -- The number of a table's keys.
-use Rattle.std.proofs.Common.{◌≡◌, ◌+◌, List, [], ◌∷◌, length, None, refl, arith, String, Global}
+use Rattle.std.proofs.Common.{◌≡◌, List, [], ◌∷◌, length, None, refl, arith, String, Global}
 use Rattle.toml.specs.declared.value.Value.{Value}
 use Rattle.toml.specs.View.{members_view, items_view}
 use Rattle.pm_scenario.specs.Documents.{key_count, only_item}

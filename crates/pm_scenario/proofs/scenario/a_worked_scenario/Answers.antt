@@ -1,4 +1,4 @@
-use Rattle.std.proofs.Common.{refl, ◌≡◌, Some, true, codes, List, ℕ, pos}
+use Rattle.std.proofs.Common.{refl, ◌≡◌, Some, true, codes, pos}
 use Rattle.std.specs.Str.{is_utf8}
 use Rattle.toml.specs.Data.{Members, no_members, member, Items, no_items, item, integer, string, array, table}
 use Rattle.toml.specs.Parse.{parse_document}

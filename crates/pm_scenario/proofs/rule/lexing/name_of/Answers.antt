@@ -1,4 +1,4 @@
-use Rattle.std.proofs.Common.{true, false, inl, inr, refl}
+use Rattle.std.proofs.Common.{inl, inr, refl}
 use Rattle.std.proofs.lemmas.Bool.{cases_Bool}
 use Rattle.std.proofs.lemmas.Str.{IsUtf8-from_ascii}
 use Rattle.pm_base.specs.Names.{is_name}
