@@ -1,0 +1,4 @@
+pub mod Directories
+pub mod Numbers
+pub mod Plans
+pub mod Trees
