@@ -5,3 +5,6 @@ pub mod Roots
 pub mod ClassRows
 pub mod Made
 pub mod Rooted
+pub mod Accepted
+pub mod Paths
+pub mod Valid

@@ -16,7 +16,7 @@ abbrev pub tally : (ℕ → Bool) → List ℕ → ℕ
 tally p [] = 0
 tally p (x ∷ xs) = one_if (p x) (tally p xs)
 
-in_range : (xs : List (Option ℕ)) (v x : ℕ) → get_or xs v None ≡ Some x → v < length xs
+pub in_range : (xs : List (Option ℕ)) (v x : ℕ) → get_or xs v None ≡ Some x → v < length xs
 in_range [] v x e = absurd (cc)
 in_range (y ∷ ys) zero x e = omega arith
 in_range (y ∷ ys) (suc v) x e = (let r = in_range ys v x e in omega arith)
