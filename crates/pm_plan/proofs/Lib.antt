@@ -8,3 +8,4 @@ pub mod Rooted
 pub mod Accepted
 pub mod Paths
 pub mod Valid
+pub mod Walks

@@ -44,7 +44,7 @@ module _ (ps : List (Option ℕ)) (ok : Rooted ps) where
   abbrev far : ℕ → ℕ → ℕ
   far c d = gap ps ok c d
 
-  far_self : (c : ℕ) → far c c ≡ 0
+  pub far_self : (c : ℕ) → far c c ≡ 0
   far_self c = (let a = none_out (ups (length ps) ps (Some c)) (ups (length ps) ps (Some c)) (λ y i. i) in omega (arith, a))
 
   far_sym : (c d : ℕ) → far c d ≡ far d c
@@ -56,7 +56,7 @@ module _ (ps : List (Option ℕ)) (ok : Rooted ps) where
   far_zero : (c d : ℕ) → c < N → d < N → far c d ≡ 0 → c ≡ d
   far_zero c d lc ld e = elim (cases_eq c d) [ inl f ↦ f | inr ne ↦ absurd (let n = nearer ps ok c d lc ld ne in omega (arith, n, e)) ]
 
-  far_most : (c d : ℕ) → far c d ≤ N + N
+  pub far_most : (c d : ℕ) → far c d ≤ N + N
   far_most c d =
       let a = tally_short (λ y. not (has y (ups N ps (Some d)))) (ups N ps (Some c)) in
       let b = tally_short (λ y. not (has y (ups N ps (Some c)))) (ups N ps (Some d)) in
@@ -64,13 +64,13 @@ module _ (ps : List (Option ℕ)) (ok : Rooted ps) where
       let y = ups_short N ps (Some d) in
       omega (arith, a, b, x, y)
 
-  hop_edge : (c d : ℕ) → c < N → d < N → (c ≡ d → ⊥) → edge ps c (hp c d) ≡ true
+  pub hop_edge : (c d : ℕ) → c < N → d < N → (c ≡ d → ⊥) → edge ps c (hp c d) ≡ true
   hop_edge c d lc ld ne = elim (way ps ok c d lc ld ne) [ inl a ↦ edge_down ps ok c (hp c d) a.0 | inr a ↦ edge_up ps ok c (hp c d) a.0 ]
 
-  edge_in : (c d : ℕ) → edge ps c d ≡ true → d < N
+  pub edge_in : (c d : ℕ) → edge ps c d ≡ true → d < N
   edge_in c d e = elim (edge_or ps ok c d e) [ inl f ↦ ok.inside c d f | inr f ↦ in_range ps d c f ]
 
-  hop_in : (c d : ℕ) → c < N → d < N → (c ≡ d → ⊥) → hp c d < N
+  pub hop_in : (c d : ℕ) → c < N → d < N → (c ≡ d → ⊥) → hp c d < N
   hop_in c d lc ld ne = edge_in c (hp c d) (hop_edge c d lc ld ne)
 
   -- of two neighbours one has the other on its way
@@ -115,10 +115,13 @@ module _ (ps : List (Option ℕ)) (ok : Rooted ps) where
 
   hops_once : (fuel c d : ℕ) → c < N → d < N → Once (c ∷ hops fuel ps c d)
   hops_once zero c d lc ld = (refl, tt)
-  hops_once (suc fuel) c d lc ld = (hops_new (suc fuel) c d lc ld, elim (cases_eq c d) [
-    | inl e ↦ subst Once (sym (ap (λ y. hops (suc fuel) ps y d) e ∙ hops_here (suc fuel) ps d)) tt
-    | inr ne ↦ subst Once (sym (hops_on fuel ps c d ne)) (hops_once fuel (hp c d) d (hop_in c d lc ld ne) ld)
-  ])
+  hops_once (suc fuel) c d lc ld = (
+    hops_new (suc fuel) c d lc ld,
+    elim (cases_eq c d) [
+      | inl e ↦ subst Once (sym (ap (λ y. hops (suc fuel) ps y d) e ∙ hops_here (suc fuel) ps d)) tt
+      | inr ne ↦ subst Once (sym (hops_on fuel ps c d ne)) (hops_once fuel (hp c d) d (hop_in c d lc ld ne) ld)
+    ],
+  )
 
   pub path_is : (c d : ℕ) → c < N → d < N → IsPath ps c d (path ps c d)
   path_is c d lc ld = record { linked = hops_linked (N + N) c d lc ld (far_most c d); once = hops_once (N + N) c d lc ld }
@@ -150,13 +153,19 @@ module _ (ps : List (Option ℕ)) (ok : Rooted ps) where
 
   -- the path begins with the hop
   pub path_hop : (c d : ℕ) → c < N → d < N → (c ≡ d → ⊥) → (rest : List ℕ) × IsPath ps c d ((hop ps c d) ∷ rest)
-  path_hop c d lc ld ne = (path ps (hp c d) d, record {
+  path_hop c d lc ld ne = (
+    path ps (hp c d) d,
+    record {
       linked = (hop_edge c d lc ld ne, (path_is (hp c d) d (hop_in c d lc ld ne) ld).linked);
-      once = (not_has c ((hp c d) ∷ path ps (hp c d) d) (λ i. elim i [
-        | inl e ↦ (let n = nearer ps ok c d lc ld ne in let s = ap (λ y. far y d) e in omega (arith, n, s))
-        | inr j ↦ (let n = nearer ps ok c d lc ld ne in let r = hops_near (N + N) (hp c d) d c (hop_in c d lc ld ne) ld j in omega (arith, n, r))
-      ]), (path_is (hp c d) d (hop_in c d lc ld ne) ld).once);
-    })
+      once = (
+        not_has c ((hp c d) ∷ path ps (hp c d) d) (λ i. elim i [
+          | inl e ↦ (let n = nearer ps ok c d lc ld ne in let s = ap (λ y. far y d) e in omega (arith, n, s))
+          | inr j ↦ (let n = nearer ps ok c d lc ld ne in let r = hops_near (N + N) (hp c d) d c (hop_in c d lc ld ne) ld j in omega (arith, n, r))
+        ]),
+        (path_is (hp c d) d (hop_in c d lc ld ne) ld).once,
+      );
+    },
+  )
 
   pub len_nearer : (c d : ℕ) → c < N → d < N → (c ≡ d → ⊥) → suc (path_len ps (hop ps c d) d) ≡ path_len ps c d
   len_nearer c d lc ld ne = (let a = path_len_far (hp c d) d (hop_in c d lc ld ne) ld in let b = path_len_far c d lc ld in let n = nearer ps ok c d lc ld ne in omega (arith, a, b, n))
@@ -238,3 +247,6 @@ module _ (ps : List (Option ℕ)) (ok : Rooted ps) where
       let b = nearer ps ok c h lc lh nc in
       let x = ap (λ y. far y h) e in
       let y = ap (λ z. far z h) f in omega (arith, a, b, x, y)
+
+  pub len_here : (c : ℕ) → path_len ps c c ≡ 0
+  len_here c = ap length (hops_here (N + N) ps c)

@@ -59,3 +59,6 @@ valid_rooted plan valid =
     let k = valid_kept plan valid in
     let l = length-map plan.clps (λ r. r.parent) in
     rooted (parents plan.clps) (let s = k.some in omega (arith, l, s)) (tree_and_places plan valid).0
+
+pub valid_inside : (plan : Plan) (c : ℕ) → c < length plan.clps → c < length (parents plan.clps)
+valid_inside plan c lt = (let l = length-map plan.clps (λ r. r.parent) in omega (arith, l, lt))

@@ -3,10 +3,12 @@
 
 mod check;
 mod fault;
+pub mod laws;
 mod make;
 mod named;
 mod numbers;
 mod parts;
+mod path;
 mod plan;
 mod rows;
 mod tree;
