@@ -1,6 +1,6 @@
 -- What is known of a valid plan.
 use Rattle.std.proofs.Common.{◌≡◌, ℕ, zero, suc, ◌+◌, ◌<◌, ◌≤◌, refl, arith, ap, sym, ◌∙◌, subst, List, length, get_or, map, false, Bool, true, Option, Some, None, Result, Ok, Err}
-use Rattle.std.specs.Prelude.{option_map}
+use Rattle.std.specs.Prelude.{option_map, nat_le}
 use Rattle.std.proofs.lemmas.List.{length-map, get_or-map}
 use Rattle.std.proofs.lemmas.Bool.Decides.{nat_tests}
 use Rattle.pm_plan.specs.Plans.{numbered, count_refusal, later_refusal, refusal, refused_if, is_late, of_names, first_off_tree, place_refusal, first_nowhere, parents, or_else, plan_of, unless_refused, IsValid}
@@ -9,7 +9,7 @@ use Rattle.pm_plan.specs.declared.fault.PlanFault.{PlanFault}
 use Rattle.pm_plan.specs.declared.fault.PlanFault.TheVariants as fault
 use Rattle.pm_plan.specs.declared.plan.Kind.TheVariants as kind
 use Rattle.pm_plan.specs.declared.plan.Plan.{Plan}
-use Rattle.pm_plan.proofs.Accepted.{rooted}
+use Rattle.pm_plan.proofs.Accepted.{rooted, none_passes}
 use Rattle.pm_plan.proofs.Made.{Kept, kept}
 use Rattle.pm_plan.proofs.Rooted.{Rooted}
 
@@ -62,3 +62,20 @@ valid_rooted plan valid =
 
 pub valid_inside : (plan : Plan) (c : ℕ) → c < length plan.clps → c < length (parents plan.clps)
 valid_inside plan c lt = (let l = length-map plan.clps (λ r. r.parent) in omega (arith, l, lt))
+
+placed : (clps : ℕ) (places : List ℕ) (i : ℕ) → first_nowhere clps places ≡ None → i < length places → get_or places i 0 < clps
+unfolding first_nowhere
+placed clps places i e lt = (let f = none_passes (λ k. nat_le clps (get_or places k 0)) (length places) i e lt in grind (arith, nat_tests, f))
+
+places_none : (plan : Plan) → IsValid plan → (first_nowhere (length plan.clps) (map (λ v. v.at) plan.vars) ≡ None) × (first_nowhere (length plan.clps) (map (λ a. a.home) plan.agents) ≡ None)
+places_none plan valid =
+    let vars = first_nowhere (length plan.clps) (map (λ v. v.at) plan.vars) in
+    let agents = first_nowhere (length plan.clps) (map (λ a. a.home) plan.agents) in
+    let e = or_none (option_map (fault.Place kind.Var) vars) (option_map (fault.Place kind.Agent) agents) (tree_and_places plan valid).1 in
+    (map_none (fault.Place kind.Var) vars e.0, map_none (fault.Place kind.Agent) agents e.1)
+
+pub valid_var : (plan : Plan) → IsValid plan → (i : ℕ) → i < length plan.vars → get_or (map (λ v. v.at) plan.vars) i 0 < length plan.clps
+valid_var plan valid i lt = placed (length plan.clps) (map (λ v. v.at) plan.vars) i (places_none plan valid).0 (let l = length-map plan.vars (λ v. v.at) in omega (arith, l, lt))
+
+pub valid_agent : (plan : Plan) → IsValid plan → (i : ℕ) → i < length plan.agents → get_or (map (λ a. a.home) plan.agents) i 0 < length plan.clps
+valid_agent plan valid i lt = placed (length plan.clps) (map (λ a. a.home) plan.agents) i (places_none plan valid).1 (let l = length-map plan.agents (λ a. a.home) in omega (arith, l, lt))

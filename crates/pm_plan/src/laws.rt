@@ -1,7 +1,7 @@
 //! Laws of the tree of a plan, for proofs: each function does nothing, and its contract is the law.
 
-ghost use Rattle.std.specs.Prelude.{◌≡◌, ◌≢◌, ◌<◌, ◌+◌, ◌⊎◌, ℕ, List, length, true};
-ghost use Rattle.pm_plan.specs.Plans.{IsValid, parents};
+ghost use Rattle.std.specs.Prelude.{◌≡◌, ◌≢◌, ◌<◌, ◌≤◌, ◌+◌, ◌⊎◌, ℕ, List, [], ◌∷◌, length, map, slice_index, true, Some, None};
+ghost use Rattle.pm_plan.specs.Plans.{IsValid, first_off_tree, parents};
 ghost use Rattle.pm_plan.specs.Trees.{edge, has, hop, path, path_len, IsPath};
 
 use crate::Plan;
@@ -65,4 +65,36 @@ pub fn one_of_two_neighbours(plan: &Plan, one: u32, other: u32, to: u32)
         ((one ≢ to) × (hop (parents plan.now.clps) one to ≡ other)) }
     ensures not_both { other ≢ to → hop (parents plan.now.clps) other to ≡ one →
         one ≢ to → hop (parents plan.now.clps) one to ≢ other }
+{}
+
+/// A plan has as many of each kind as it may have.
+pub fn counts_are_kept(plan: &Plan)
+    requires { IsValid plan.now }
+    ensures some { 1 ≤ length plan.now.clps }
+    ensures clps { length plan.now.clps ≤ 64 }
+    ensures classes { length plan.now.classes ≤ 64 }
+    ensures vars { length plan.now.vars ≤ 4096 }
+    ensures agents { length plan.now.agents ≤ 1024 }
+{}
+
+/// Each variable and each agent is at a process.
+pub fn places_exist(plan: &Plan)
+    requires { IsValid plan.now }
+    ensures vars { (i : ℕ) → i < length plan.now.vars →
+        slice_index (map (λ v. v.at) plan.now.vars) i < length plan.now.clps }
+    ensures agents { (i : ℕ) → i < length plan.now.agents →
+        slice_index (map (λ a. a.home) plan.now.agents) i < length plan.now.clps }
+{}
+
+/// Worked rows of the definitions: which process is off the tree, and ways through a tree.
+#[tactic(auto, unfolding(crate::specs::Plans::first_off_tree))]
+pub fn rows_of_trees()
+    ensures tree { first_off_tree (None ∷ Some 0 ∷ []) ≡ None }
+    ensures itself { first_off_tree (None ∷ Some 1 ∷ []) ≡ Some 1 }
+    ensures round { first_off_tree (None ∷ Some 2 ∷ Some 1 ∷ []) ≡ Some 1 }
+    ensures second { first_off_tree (None ∷ Some 0 ∷ None ∷ []) ≡ Some 2 }
+    ensures lost { first_off_tree (Some 1 ∷ Some 3 ∷ None ∷ []) ≡ Some 1 }
+    ensures across { path (None ∷ Some 0 ∷ Some 0 ∷ Some 1 ∷ []) 3 2 ≡ 1 ∷ 0 ∷ 2 ∷ [] }
+    ensures down { path (None ∷ Some 0 ∷ Some 0 ∷ Some 1 ∷ []) 0 3 ≡ 1 ∷ 3 ∷ [] }
+    ensures here { path (None ∷ Some 0 ∷ Some 0 ∷ Some 1 ∷ []) 3 3 ≡ [] }
 {}
