@@ -1,1 +1,5 @@
+pub mod Directories
 pub mod Limits
+pub mod Numbers
+pub mod Plans
+pub mod Trees

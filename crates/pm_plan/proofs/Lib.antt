@@ -1,0 +1,11 @@
+pub mod Leasts
+pub mod Chains
+pub mod Firsts
+pub mod Roots
+pub mod ClassRows
+pub mod Made
+pub mod Rooted
+pub mod Accepted
+pub mod Paths
+pub mod Valid
+pub mod Walks

@@ -1,0 +1,100 @@
+//! Laws of the tree of a plan, for proofs: each function does nothing, and its contract is the law.
+
+ghost use Rattle.std.specs.Prelude.{◌≡◌, ◌≢◌, ◌<◌, ◌≤◌, ◌+◌, ◌⊎◌, ℕ, List, [], ◌∷◌, length, map, slice_index, true, Some, None};
+ghost use Rattle.pm_plan.specs.Plans.{IsValid, first_off_tree, parents};
+ghost use Rattle.pm_plan.specs.Trees.{edge, has, hop, path, path_len, IsPath};
+
+use crate::Plan;
+
+/// There is one path between two processes.
+pub fn path_is_the_only_one(plan: &Plan, from: u32, to: u32)
+    requires valid { IsValid plan.now }
+    requires from { from < length plan.now.clps }
+    requires to { to < length plan.now.clps }
+    ensures path { IsPath (parents plan.now.clps) from to (path (parents plan.now.clps) from to) }
+    ensures only { (xs : List ℕ) → IsPath (parents plan.now.clps) from to xs → xs ≡ path (parents plan.now.clps) from to }
+{}
+
+/// A hop goes one edge nearer.
+pub fn hop_is_nearer(plan: &Plan, from: u32, to: u32)
+    requires valid { IsValid plan.now }
+    requires from { from < length plan.now.clps }
+    requires to { to < length plan.now.clps }
+    requires apart { from ≢ to }
+    ensures edge { edge (parents plan.now.clps) from (hop (parents plan.now.clps) from to) ≡ true }
+    ensures nearer { path_len (parents plan.now.clps) (hop (parents plan.now.clps) from to) to + 1 ≡
+        path_len (parents plan.now.clps) from to }
+{}
+
+/// Two neighbours are one edge apart, and each is the hop to the other.
+pub fn neighbours_are_one_apart(plan: &Plan, from: u32, to: u32)
+    requires valid { IsValid plan.now }
+    requires from { from < length plan.now.clps }
+    requires to { to < length plan.now.clps }
+    requires edge { edge (parents plan.now.clps) from to ≡ true }
+    ensures hop { hop (parents plan.now.clps) from to ≡ to }
+    ensures len { path_len (parents plan.now.clps) from to ≡ 1 }
+{}
+
+/// It is as far there as back.
+pub fn back_is_as_far(plan: &Plan, from: u32, to: u32)
+    requires valid { IsValid plan.now }
+    requires from { from < length plan.now.clps }
+    requires to { to < length plan.now.clps }
+    ensures { path_len (parents plan.now.clps) from to ≡ path_len (parents plan.now.clps) to from }
+{}
+
+/// Lengths add along a path.
+pub fn lengths_add(plan: &Plan, from: u32, by: u32, to: u32)
+    requires valid { IsValid plan.now }
+    requires from { from < length plan.now.clps }
+    requires to { to < length plan.now.clps }
+    requires on { has by (path (parents plan.now.clps) from to) ≡ true }
+    ensures { path_len (parents plan.now.clps) from by + path_len (parents plan.now.clps) by to ≡
+        path_len (parents plan.now.clps) from to }
+{}
+
+/// Of two neighbours exactly one has the other on its way to a third process.
+pub fn one_of_two_neighbours(plan: &Plan, one: u32, other: u32, to: u32)
+    requires valid { IsValid plan.now }
+    requires one { one < length plan.now.clps }
+    requires other { other < length plan.now.clps }
+    requires to { to < length plan.now.clps }
+    requires edge { edge (parents plan.now.clps) one other ≡ true }
+    ensures either { ((other ≢ to) × (hop (parents plan.now.clps) other to ≡ one)) ⊎
+        ((one ≢ to) × (hop (parents plan.now.clps) one to ≡ other)) }
+    ensures not_both { other ≢ to → hop (parents plan.now.clps) other to ≡ one →
+        one ≢ to → hop (parents plan.now.clps) one to ≢ other }
+{}
+
+/// A plan has as many of each kind as it may have.
+pub fn counts_are_kept(plan: &Plan)
+    requires { IsValid plan.now }
+    ensures some { 1 ≤ length plan.now.clps }
+    ensures clps { length plan.now.clps ≤ 64 }
+    ensures classes { length plan.now.classes ≤ 64 }
+    ensures vars { length plan.now.vars ≤ 4096 }
+    ensures agents { length plan.now.agents ≤ 1024 }
+{}
+
+/// Each variable and each agent is at a process.
+pub fn places_exist(plan: &Plan)
+    requires { IsValid plan.now }
+    ensures vars { (i : ℕ) → i < length plan.now.vars →
+        slice_index (map (λ v. v.at) plan.now.vars) i < length plan.now.clps }
+    ensures agents { (i : ℕ) → i < length plan.now.agents →
+        slice_index (map (λ a. a.home) plan.now.agents) i < length plan.now.clps }
+{}
+
+/// Worked rows of the definitions: which process is off the tree, and ways through a tree.
+#[tactic(auto, unfolding(crate::specs::Plans::first_off_tree))]
+pub fn rows_of_trees()
+    ensures tree { first_off_tree (None ∷ Some 0 ∷ []) ≡ None }
+    ensures itself { first_off_tree (None ∷ Some 1 ∷ []) ≡ Some 1 }
+    ensures round { first_off_tree (None ∷ Some 2 ∷ Some 1 ∷ []) ≡ Some 1 }
+    ensures second { first_off_tree (None ∷ Some 0 ∷ None ∷ []) ≡ Some 2 }
+    ensures lost { first_off_tree (Some 1 ∷ Some 3 ∷ None ∷ []) ≡ Some 1 }
+    ensures across { path (None ∷ Some 0 ∷ Some 0 ∷ Some 1 ∷ []) 3 2 ≡ 1 ∷ 0 ∷ 2 ∷ [] }
+    ensures down { path (None ∷ Some 0 ∷ Some 0 ∷ Some 1 ∷ []) 0 3 ≡ 1 ∷ 3 ∷ [] }
+    ensures here { path (None ∷ Some 0 ∷ Some 0 ∷ Some 1 ∷ []) 3 3 ≡ [] }
+{}
