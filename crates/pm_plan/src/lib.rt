@@ -16,3 +16,6 @@ mod tree;
 pub use fault::PlanFault;
 pub use parts::{AgentPart, ClassPart, ClpPart, PlanParts, VarPart};
 pub use plan::{AgentRow, ClpRow, Kind, Plan, VarRow};
+
+#[cfg(test)]
+mod tests;
