@@ -32,13 +32,14 @@ of_plan p = count_refusal (length p.clps) (length p.classes) (length p.vars) (le
 abbrev pub of_parts : PlanParts → Option PlanFault
 of_parts parts = count_refusal (length parts.clps) (length parts.classes) (length (all_vars parts.classes)) (length parts.agents)
 
-record Lengths (parts : PlanParts) (p : Plan) : Type 0 where
-  clps : length p.clps ≡ length parts.clps
-  classes : length p.classes ≡ length parts.classes
-  vars : length p.vars ≡ length (all_vars parts.classes)
-  agents : length p.agents ≡ length parts.agents
+-- how many a plan has of each kind
+pub record Lengths (parts : PlanParts) (p : Plan) : Type 0 where
+  pub clps : length p.clps ≡ length parts.clps
+  pub classes : length p.classes ≡ length parts.classes
+  pub vars : length p.vars ≡ length (all_vars parts.classes)
+  pub agents : length p.agents ≡ length parts.agents
 
-lengths : (parts : PlanParts) → Lengths parts (numbered parts)
+pub lengths : (parts : PlanParts) → Lengths parts (numbered parts)
 unfolding numbered
 lengths parts =
     let names = map (λ c. c.name) parts.clps in

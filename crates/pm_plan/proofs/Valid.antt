@@ -1,16 +1,26 @@
 -- What is known of a valid plan.
-use Rattle.std.proofs.Common.{◌≡◌, ℕ, zero, suc, ◌+◌, ◌<◌, ◌≤◌, refl, arith, ap, sym, ◌∙◌, subst, List, length, get_or, map, false, Bool, true, Option, Some, None, Result, Ok, Err}
-use Rattle.std.specs.Prelude.{option_map, nat_le}
+use Rattle.std.proofs.Common.{◌≡◌, ℕ, zero, suc, ◌+◌, ◌<◌, ◌≤◌, refl, arith, ap, sym, ◌∙◌, subst, List, length, length-append, get_or, map, false, Bool, true, Option, Some, None, Result, Ok, Err}
+use Rattle.std.specs.Prelude.{option_map, nat_le, nat_lt, [], ◌∷◌, ◌++◌, ◌^◌, ◌&&◌, ◌||◌}
+use Rattle.std.specs.List.{list_all, list_any}
 use Rattle.std.proofs.lemmas.List.{length-map, get_or-map}
 use Rattle.std.proofs.lemmas.Bool.Decides.{nat_tests}
-use Rattle.pm_plan.specs.Plans.{numbered, count_refusal, later_refusal, refusal, refused_if, is_late, of_names, first_off_tree, place_refusal, first_nowhere, parents, or_else, plan_of, unless_refused, IsValid}
+use Rattle.pm_base.specs.Fits.{fits}
+use Rattle.pm_base.specs.Layouts.{Follow, IsLayout}
+use Rattle.pm_base.specs.declared.layout.ClassRow.{ClassRow}
+use Rattle.pm_base.specs.declared.layout.Layout.{Layout}
+use Rattle.pm_plan.specs.Limits.{IsWithinLimits}
+use Rattle.pm_plan.specs.declared.parts.AgentPart.{AgentPart}
+use Rattle.pm_plan.specs.declared.parts.ClassPart.{ClassPart}
+use Rattle.pm_plan.specs.declared.parts.PlanParts.{PlanParts}
+use Rattle.pm_plan.specs.declared.plan.AgentRow.{AgentRow}
+use Rattle.pm_plan.specs.Plans.{agent_row, all_vars, class_rows, is_past, starts_late, rules_fit, numbered, count_refusal, later_refusal, refusal, refused_if, is_late, of_names, first_off_tree, place_refusal, first_nowhere, parents, or_else, plan_of, unless_refused, IsValid}
 use Rattle.pm_plan.specs.Numbers.{first_wrong, first_repeat}
 use Rattle.pm_plan.specs.declared.fault.PlanFault.{PlanFault}
 use Rattle.pm_plan.specs.declared.fault.PlanFault.TheVariants as fault
 use Rattle.pm_plan.specs.declared.plan.Kind.TheVariants as kind
 use Rattle.pm_plan.specs.declared.plan.Plan.{Plan}
 use Rattle.pm_plan.proofs.Accepted.{rooted, none_passes}
-use Rattle.pm_plan.proofs.Made.{Kept, kept}
+use Rattle.pm_plan.proofs.Made.{Kept, Lengths, kept, lengths}
 use Rattle.pm_plan.proofs.Rooted.{Rooted}
 
 unless_ok : (o : Option PlanFault) (p q : Plan) → unless_refused o p ≡ Ok q → (o ≡ None) × (p ≡ q)
@@ -79,3 +89,75 @@ valid_var plan valid i lt = placed (length plan.clps) (map (λ v. v.at) plan.var
 
 pub valid_agent : (plan : Plan) → IsValid plan → (i : ℕ) → i < length plan.agents → get_or (map (λ a. a.home) plan.agents) i 0 < length plan.clps
 valid_agent plan valid i lt = placed (length plan.clps) (map (λ a. a.home) plan.agents) i (places_none plan valid).1 (let l = length-map plan.agents (λ a. a.home) in omega (arith, l, lt))
+
+rules_as_rows : (layout : Layout) (names : List (List ℕ)) (xs : List AgentPart)
+    → list_all (λ (r : AgentRow). fits r.program layout) (map (agent_row names) xs) ≡ list_all (λ (a : AgentPart). fits a.program layout) xs
+rules_as_rows layout names [] = refl
+rules_as_rows layout names (x ∷ xs) = ap (λ b. fits x.program layout && b) (rules_as_rows layout names xs)
+
+numbered_rules : (parts : PlanParts) → rules_fit parts.classes parts.agents ≡ true
+    → list_all (λ (r : AgentRow). fits r.program (numbered parts).layout) (numbered parts).agents ≡ true
+unfolding numbered
+numbered_rules parts e = rules_as_rows (record { classes = class_rows 0 parts.classes }) (map (λ c. c.name) parts.clps) parts.agents ∙ e
+
+-- each rule fits the plan's classes
+pub valid_rules : (plan : Plan) → IsValid plan → list_all (λ (r : AgentRow). fits r.program plan.layout) plan.agents ≡ true
+valid_rules plan valid =
+    subst (λ (p : Plan). list_all (λ (r : AgentRow). fits r.program p.layout) p.agents ≡ true) (plan_is plan valid) (numbered_rules valid.parts valid.rules)
+
+rows_follow : (n : ℕ) (cs : List ClassPart) → n + length (all_vars cs) < 2 ^ 32 → Follow n (class_rows n cs)
+rows_follow n [] lt = omega (arith, lt)
+rows_follow n (c ∷ cs) lt = (refl, rows_follow (n + length c.vars) cs (let l = length-append c.vars (all_vars cs) in omega (arith, lt, l)))
+
+rows_count : (n : ℕ) (cs : List ClassPart) → length (class_rows n cs) ≡ length cs
+rows_count n [] = refl
+rows_count n (c ∷ cs) = let e = rows_count (n + length c.vars) cs in omega (arith, e)
+
+not_late_by : (time : ℕ) (more : Bool) (f : PlanFault) (b : Bool) → is_past time ≡ b → refused_if (b || more) f ≡ None → time ≤ 1000000000000
+not_late_by time more f true h e = absurd (cc)
+not_late_by time more f false h e = grind (arith, nat_tests, h)
+
+not_late : (time : ℕ) (more : Bool) (f : PlanFault) → refused_if (is_past time || more) f ≡ None → time ≤ 1000000000000
+not_late time more f e = not_late_by time more f (is_past time) refl e
+
+-- a plan made of parts has classes that follow one another
+numbered_layout : (parts : PlanParts) → length (all_vars parts.classes) < 2 ^ 32 → length parts.classes < 2 ^ 32 → IsLayout (numbered parts).layout
+unfolding numbered
+numbered_layout parts vars classes = record {
+  few = let e = rows_count 0 parts.classes in omega (arith, classes, e);
+  follow = rows_follow 0 parts.classes (omega (arith, vars));
+}
+
+-- the horizon of a valid plan is no later than a plan may name
+pub valid_horizon : (plan : Plan) → IsValid plan → plan.horizon ≤ 1000000000000
+unfolding later_refusal
+valid_horizon plan valid =
+    let e : later_refusal plan ≡ None = (parts_none plan valid).1 in
+    let a = or_none (refused_if (is_late plan) (fault.Limit kind.Time))
+      (or_else (of_names fault.Name first_wrong plan) (or_else (of_names fault.Twice first_repeat plan)
+      (or_else (option_map fault.Tree (first_off_tree (parents plan.clps))) (place_refusal plan)))) e in
+    not_late plan.horizon (list_any starts_late plan.agents) (fault.Limit kind.Time) a.0
+
+row_count : (parts : PlanParts) → length (numbered parts).layout.classes ≡ length parts.classes
+unfolding numbered
+row_count parts = rows_count 0 parts.classes
+
+-- a valid plan is within the limits
+pub valid_limits : (plan : Plan) → IsValid plan → IsWithinLimits plan
+valid_limits plan valid =
+    let k = valid_kept plan valid in
+    let l = lengths valid.parts in
+    let is = plan_is plan valid in
+    let vars : length (numbered valid.parts).vars ≡ length plan.vars = ap (λ (p : Plan). length p.vars) is in
+    let classes : length (numbered valid.parts).classes ≡ length plan.classes = ap (λ (p : Plan). length p.classes) is in
+    let rows : length (numbered valid.parts).layout.classes ≡ length plan.layout.classes = ap (λ (p : Plan). length p.layout.classes) is in
+    let count = row_count valid.parts in
+    record {
+      horizon = valid_horizon plan valid;
+      clps = k.clps;
+      classes = omega (arith, k.classes, rows, count, classes, l.classes);
+      vars = k.vars;
+      agents = k.agents;
+      layout = subst (λ (p : Plan). IsLayout p.layout) is
+        (numbered_layout valid.parts (omega (arith, vars, l.vars, k.vars)) (omega (arith, classes, l.classes, k.classes)));
+    }

@@ -1,6 +1,7 @@
 -- The plan of parts, or why there is none.
 use Rattle.std.specs.Prelude.{◌≡◌, ℕ, zero, suc, ◌+◌, ◌*◌, ◌^◌, ◌<◌, Bool, true, false, ◌||◌, ◌&&◌, if◌then◌else◌, nat_lt, nat_le, List, [], ◌∷◌, length, take, get_or, map, Option, Some, None, is_some, is_none, option_map, unwrap_or, Result, Ok, Err}
-use Rattle.std.specs.List.{flat_map, list_any}
+use Rattle.std.specs.List.{flat_map, list_all, list_any}
+use Rattle.pm_base.specs.Fits.{fits}
 use Rattle.pm_base.specs.Layouts.{IsLayout}
 use Rattle.pm_base.specs.declared.layout.ClassRow.{ClassRow}
 use Rattle.pm_plan.specs.Numbers.{least, number_of, name_at, first_wrong, first_repeat}
@@ -154,7 +155,12 @@ pub record IsFew (p : Plan) : Type 0 where
   pub vars : length p.vars < 2 ^ 32
   pub agents : length p.agents < 2 ^ 32
 
--- a plan is valid where it is the plan of some parts
+-- whether each agent's rule fits these classes
+abbrev pub rules_fit : List ClassPart → List AgentPart → Bool
+rules_fit classes agents = list_all (λ (a : AgentPart). fits a.program (record { classes = class_rows 0 classes })) agents
+
+-- a plan is valid where it is the plan of some parts whose rules fit
 pub record IsValid (plan : Plan) : Type 0 where
   pub parts : PlanParts
   pub made : plan_of parts ≡ Ok plan
+  pub rules : rules_fit parts.classes parts.agents ≡ true

@@ -1,6 +1,10 @@
 //! Laws of the tree of a plan, for proofs: each function does nothing, and its contract is the law.
 
 ghost use Rattle.std.specs.Prelude.{◌≡◌, ◌≢◌, ◌<◌, ◌≤◌, ◌+◌, ◌⊎◌, ℕ, List, [], ◌∷◌, length, map, slice_index, true, Some, None};
+ghost use Rattle.std.specs.List.{list_all};
+ghost use Rattle.pm_base.specs.Fits.{fits};
+ghost use Rattle.pm_plan.specs.declared.plan.AgentRow.{AgentRow as TheAgent};
+ghost use Rattle.pm_plan.specs.Limits.{IsWithinLimits};
 ghost use Rattle.pm_plan.specs.Plans.{IsValid, first_off_tree, parents};
 ghost use Rattle.pm_plan.specs.Trees.{edge, has, hop, path, path_len, IsPath};
 
@@ -67,14 +71,18 @@ pub fn one_of_two_neighbours(plan: &Plan, one: u32, other: u32, to: u32)
         one ≢ to → hop (parents plan.now.clps) one to ≢ other }
 {}
 
-/// A plan has as many of each kind as it may have.
-pub fn counts_are_kept(plan: &Plan)
+/// A plan is within the limits, and has a process.
+pub fn limits_are_kept(plan: &Plan)
     requires { IsValid plan.now }
     ensures some { 1 ≤ length plan.now.clps }
-    ensures clps { length plan.now.clps ≤ 64 }
+    ensures limits { IsWithinLimits plan.now }
     ensures classes { length plan.now.classes ≤ 64 }
-    ensures vars { length plan.now.vars ≤ 4096 }
-    ensures agents { length plan.now.agents ≤ 1024 }
+{}
+
+/// Each agent's rule fits the plan's classes.
+pub fn rules_fit_the_layout(plan: &Plan)
+    requires { IsValid plan.now }
+    ensures { list_all (λ (a : TheAgent). fits a.program plan.now.layout) plan.now.agents ≡ true }
 {}
 
 /// Each variable and each agent is at a process.

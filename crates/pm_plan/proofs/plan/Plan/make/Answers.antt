@@ -36,4 +36,4 @@ returns-clause-made c =
     ])
 
 pub returns-clause-valid : goal.returns-clause-valid
-returns-clause-valid c = record { parts = c.args.parts; made = returns-clause-made c }
+returns-clause-valid c = record { parts = c.args.parts; made = returns-clause-made c; rules = c.requires.rules }
