@@ -1,7 +1,7 @@
 -- What is known of a valid plan.
-use Rattle.std.proofs.Common.{◌≡◌, ℕ, zero, suc, ◌+◌, ◌<◌, ◌≤◌, refl, arith, ap, sym, ◌∙◌, subst, List, length, get_or, map, false, Bool, true, Option, Some, None, Result, Ok, Err}
+use Rattle.std.proofs.Common.{◌≡◌, ℕ, ◌<◌, refl, arith, ap, sym, ◌∙◌, List, length, get_or, map, Option, Some, None, Ok}
 use Rattle.std.specs.Prelude.{option_map, nat_le}
-use Rattle.std.proofs.lemmas.List.{length-map, get_or-map}
+use Rattle.std.proofs.lemmas.List.{length-map}
 use Rattle.std.proofs.lemmas.Bool.Decides.{nat_tests}
 use Rattle.pm_plan.specs.Plans.{numbered, count_refusal, later_refusal, refusal, refused_if, is_late, of_names, first_off_tree, place_refusal, first_nowhere, parents, or_else, plan_of, unless_refused, IsValid}
 use Rattle.pm_plan.specs.Numbers.{first_wrong, first_repeat}
