@@ -1,16 +1,16 @@
 -- A list of parents from which no CLP is off the tree leads to one root.
-use Rattle.std.proofs.Common.{eqb, ◌≡◌, ℕ, zero, suc, ◌+◌, ◌-◌, ◌<◌, ◌≤◌, ◌⊎◌, inl, inr, Bool, true, false, ◌||◌, ◌&&◌, List, [], ◌∷◌, length, get_or, take, refl, arith, ap, sym, ◌∙◌, subst, Option, Some, None}
+use Rattle.std.proofs.Common.{eqb, ◌≡◌, ℕ, zero, suc, ◌+◌, ◌<◌, ◌≤◌, inl, inr, Bool, true, false, ◌||◌, ◌&&◌, List, [], ◌∷◌, length, take, refl, arith, ap, sym, ◌∙◌, subst, Option, Some, None}
 use Rattle.std.specs.List.{list_any, IsDistinct, AllByRecursion}
 use Rattle.std.specs.Prelude.{is_none}
 use Rattle.std.proofs.lemmas.Bool.{cases_Bool, cases_lt, or_cases}
 use Rattle.std.proofs.lemmas.Bool.Decides.{nat_tests}
-use Rattle.std.proofs.lemmas.List.{get_or_past, get_or-take, length-take-le}
+use Rattle.std.proofs.lemmas.List.{get_or_past}
 use Rattle.std.proofs.lemmas.Map.Keys.{IsDistinct-cons, IsDistinct-from_apart}
 use Rattle.std.proofs.lemmas.Map.Steps.{length-le_from_distinct_below}
 use Rattle.pm_plan.specs.Numbers.{least, least_from}
 use Rattle.pm_plan.specs.Plans.{first_off_tree, is_off_tree, is_lost, is_second_root, is_endless}
 use Rattle.pm_plan.specs.Trees.{parent, ups}
-use Rattle.pm_plan.proofs.Rooted.{Rooted, ups_short}
+use Rattle.pm_plan.proofs.Rooted.{Rooted}
 
 none_from : (p : ℕ → Bool) (n i k : ℕ) → least_from p i n ≡ None → i ≤ k → k < i + n → p k ≡ false
 none_from p zero i k e lo hi = absurd (omega arith)

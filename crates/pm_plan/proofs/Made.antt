@@ -1,15 +1,12 @@
 -- The parts' plan and its refusals.
-use Rattle.std.proofs.Common.{◌≡◌, ℕ, ◌+◌, ◌<◌, ◌≤◌, ◌^◌, ◌⊎◌, inl, inr, ap, sym, ◌∙◌, arith, Bool, true, false, length, map, Option, Some, None, Result, Ok, Err, subst, refl}
+use Rattle.std.proofs.Common.{◌≡◌, ℕ, ◌≤◌, ap, sym, ◌∙◌, arith, Bool, true, false, length, map, Option, Some, None, Result, Ok, Err, subst, refl}
 use Rattle.std.specs.Prelude.{nat_lt, IfErr, ◌||◌}
 use Rattle.std.specs.Result.{IsErrAnd}
-use Rattle.std.proofs.lemmas.Bool.{cases_Bool}
 use Rattle.std.proofs.lemmas.Bool.Decides.{nat_tests}
 use Rattle.std.proofs.lemmas.List.{length-map}
 use Rattle.pm_plan.specs.Plans.{numbered, clp_row, var_row, agent_row, count_refusal, later_refusal, refusal, refused_if, or_else, plan_of, unless_refused, passed, all_vars, IsFew}
 use Rattle.pm_plan.specs.declared.fault.PlanFault.{PlanFault}
-use Rattle.pm_plan.specs.declared.fault.PlanFault.TheVariants as fault
 use Rattle.pm_plan.specs.declared.parts.PlanParts.{PlanParts}
-use Rattle.pm_plan.specs.declared.plan.Kind.TheVariants as kind
 use Rattle.pm_plan.specs.declared.plan.Plan.{Plan}
 
 pub passed_ok : (o : Option PlanFault) (u : Unit {0}) → passed o ≡ Ok u → o ≡ None

@@ -1,9 +1,9 @@
 -- The path between two CLPs of a tree, and that there is no other.
-use Rattle.std.proofs.Common.{◌≡◌, ℕ, zero, suc, ◌+◌, ◌<◌, ◌≤◌, ◌⊎◌, inl, inr, ◌==◌, Bool, true, false, not, cond, ◌||◌, List, [], ◌∷◌, length, refl, arith, ap, sym, ◌∙◌, subst, Option, Some, None}
-use Rattle.std.proofs.lemmas.Bool.{cases_Bool, cases_eq, or_cases}
+use Rattle.std.proofs.Common.{◌≡◌, ℕ, zero, suc, ◌+◌, ◌<◌, ◌≤◌, ◌⊎◌, inl, inr, ◌==◌, Bool, true, false, not, cond, ◌||◌, List, [], ◌∷◌, length, refl, arith, ap, sym, ◌∙◌, subst, Option, Some}
+use Rattle.std.proofs.lemmas.Bool.{cases_Bool, cases_eq}
 use Rattle.std.proofs.lemmas.Bool.Decides.{nat_tests}
-use Rattle.pm_plan.specs.Trees.{parent, ups, hop, edge, has, hops, path, path_len, Linked, Once, IsPath}
-use Rattle.pm_plan.proofs.Rooted.{Rooted, In, tally, one_if, in_range, has_in, in_has, not_has, tally_short, ups_short, way, child_side, edge_or, edge_up, edge_down, gap, nearer}
+use Rattle.pm_plan.specs.Trees.{ups, hop, edge, has, hops, path, path_len, Linked, Once, IsPath}
+use Rattle.pm_plan.proofs.Rooted.{Rooted, In, tally, in_range, has_in, in_has, not_has, tally_short, ups_short, way, child_side, edge_or, edge_up, edge_down, gap, nearer}
 
 none_out : (xs L : List ℕ) → ((y : ℕ) → In y xs → In y L) → tally (λ y. not (has y L)) xs ≡ 0
 none_out [] L h = refl

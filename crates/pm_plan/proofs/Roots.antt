@@ -2,7 +2,7 @@
 use Rattle.std.proofs.lemmas.List.{get_or-map}
 use Rattle.pm_plan.specs.Plans.{parents}
 use Rattle.pm_plan.specs.declared.plan.ClpRow.{ClpRow}
-use Rattle.std.proofs.Common.{◌≡◌, ℕ, ◌+◌, ◌<◌, get_or, Bool, ◌||◌, List, length, take, Option, None, refl, ap, sym, ◌∙◌}
+use Rattle.std.proofs.Common.{◌≡◌, ℕ, ◌+◌, ◌<◌, get_or, Bool, ◌||◌, List, length, take, Option, None, ap, sym, ◌∙◌}
 use Rattle.std.specs.List.{list_any}
 use Rattle.std.specs.Prelude.{is_none}
 use Rattle.std.proofs.lemmas.List.Folds.{list_any_more}

@@ -1,8 +1,14 @@
 -- What is known of a valid plan.
+<<<<<<< HEAD
 use Rattle.std.proofs.Common.{◌≡◌, ℕ, zero, suc, ◌+◌, ◌<◌, ◌≤◌, refl, arith, ap, sym, ◌∙◌, subst, List, length, length-append, get_or, map, false, Bool, true, Option, Some, None, Result, Ok, Err}
 use Rattle.std.specs.Prelude.{option_map, nat_le, nat_lt, [], ◌∷◌, ◌++◌, ◌^◌, ◌&&◌, ◌||◌}
 use Rattle.std.specs.List.{list_all, list_any}
 use Rattle.std.proofs.lemmas.List.{length-map, get_or-map}
+=======
+use Rattle.std.proofs.Common.{◌≡◌, ℕ, ◌<◌, refl, arith, ap, sym, ◌∙◌, List, length, get_or, map, Option, Some, None, Ok}
+use Rattle.std.specs.Prelude.{option_map, nat_le}
+use Rattle.std.proofs.lemmas.List.{length-map}
+>>>>>>> 6a5422173383f82cce7dea11ae4a7dc228b04599
 use Rattle.std.proofs.lemmas.Bool.Decides.{nat_tests}
 use Rattle.pm_base.specs.Fits.{fits}
 use Rattle.pm_base.specs.Layouts.{Follow, IsLayout}

@@ -1,9 +1,9 @@
 -- A walk up the tree that looks for a CLP.
-use Rattle.std.proofs.Common.{◌≡◌, ℕ, zero, suc, ◌+◌, ◌<◌, ◌≤◌, ◌==◌, Bool, true, false, cond, List, [], ◌∷◌, length, refl, arith, ap, sym, ◌∙◌, Option, Some, None}
+use Rattle.std.proofs.Common.{◌≡◌, ℕ, ◌+◌, ◌<◌, ◌≤◌, ◌==◌, true, false, cond, List, length, refl, arith, ap, sym, ◌∙◌, Option, Some, None}
 use Rattle.std.specs.Prelude.{unwrap_or}
 use Rattle.std.proofs.lemmas.Bool.Decides.{nat_tests}
 use Rattle.pm_plan.specs.Trees.{parent, ups, below_on, hop, hop_of, path_len}
-use Rattle.pm_plan.proofs.Rooted.{Rooted, up_root, up_step, below_step, tally, tally_short, ups_short}
+use Rattle.pm_plan.proofs.Rooted.{Rooted, up_root, up_step, below_step}
 use Rattle.pm_plan.proofs.Paths.{path_len_far, far_most}
 
 -- on the way up from `to`, what is below c is also on the way up from `below`

@@ -1,4 +1,4 @@
-use Rattle.std.proofs.Common.{◌≡◌, ◌<◌, ◌≤◌, ℕ, true, false, ap, sym, ◌∙◌, arith, length, map, get_or}
+use Rattle.std.proofs.Common.{◌≡◌, true, false, ap, sym, ◌∙◌, arith, map, get_or}
 use Rattle.std.specs.Prelude.{nat_le}
 use Rattle.std.proofs.lemmas.List.{length-map, get_or-map}
 use Rattle.std.proofs.lemmas.Bool.Decides.{nat_tests}

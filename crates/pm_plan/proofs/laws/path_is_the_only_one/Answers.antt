@@ -1,7 +1,5 @@
-use Rattle.std.proofs.Common.{◌≡◌, ◌<◌, ◌∙◌, arith, length}
-use Rattle.std.proofs.lemmas.List.{length-map}
 use Rattle.pm_plan.specs.Plans.{parents}
-use Rattle.pm_plan.proofs.Paths.{path_is, path_only, hop_edge, len_nearer, hop_neighbour, len_neighbour, len_back, len_between, either, not_both}
+use Rattle.pm_plan.proofs.Paths.{path_is, path_only}
 use Rattle.pm_plan.proofs.Valid.{valid_rooted, valid_inside}
 use Rattle.pm_plan.proofs.laws.path_is_the_only_one.Goals as goal
 

@@ -1,8 +1,8 @@
-use Rattle.std.proofs.Common.{◌≡◌, ℕ, Bool, ap, sym, ◌∙◌, arith, map, length, true, false, not}
+use Rattle.std.proofs.Common.{◌≡◌, ap, sym, ◌∙◌, arith, map, true, false, not}
 use Rattle.std.proofs.lemmas.List.{length-map}
 use Rattle.pm_base.specs.Names.{is_name}
 use Rattle.pm_plan.specs.Numbers.{first_wrong, name_at}
-use Rattle.pm_plan.proofs.Leasts.{LeastFrom, least_begin, least_skip, least_here, least_end, name_at-map}
+use Rattle.pm_plan.proofs.Leasts.{least_begin, least_skip, least_here, least_end, name_at-map}
 use Rattle.pm_plan.proofs.named.first_wrong.Goals as goal
 
 pub loop-i-init : goal.loop-i-init

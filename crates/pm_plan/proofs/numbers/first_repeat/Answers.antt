@@ -1,12 +1,11 @@
-use Rattle.std.proofs.Common.{◌≡◌, ◌<◌, ℕ, List, Bool, true, false, not, Option, Some, ap, sym, ◌∙◌, arith, map, length, take}
-use Rattle.std.specs.Prelude.{is_some, is_none}
+use Rattle.std.proofs.Common.{◌≡◌, ◌<◌, ℕ, List, true, false, ap, sym, ◌∙◌, arith, map, length, take}
+use Rattle.std.specs.Prelude.{is_none}
 use Rattle.std.proofs.lemmas.List.{length-map}
 use Rattle.std.proofs.lemmas.Grind.{common_steps}
 use Rattle.std.specs.Str.{bytes_eq}
-use Rattle.indexmap.specs.IndexMap.{get_by_text}
 use Rattle.pm_plan.specs.Numbers.{number_of, or_here, name_at, first_repeat}
 use Rattle.pm_plan.proofs.Firsts.{number_of-more, some_from_none}
-use Rattle.pm_plan.proofs.Leasts.{LeastFrom, least_begin, least_skip, least_here, least_end, name_at-map}
+use Rattle.pm_plan.proofs.Leasts.{least_begin, least_skip, least_here, least_end, name_at-map}
 use Rattle.pm_plan.proofs.numbers.first_repeat.Goals as goal
 
 pub loop-i-init : goal.loop-i-init

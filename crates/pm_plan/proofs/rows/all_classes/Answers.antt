@@ -1,9 +1,9 @@
-use Rattle.std.proofs.Common.{◌≡◌, ◌+◌, ◌<◌, ◌≤◌, ◌∙◌, ap, sym, arith, ℕ, List, [], ◌∷◌, ◌++◌, length, get_or, take, map}
+use Rattle.std.proofs.Common.{◌≡◌, ◌+◌, ◌≤◌, ◌∙◌, ap, sym, arith, [], ◌∷◌, ◌++◌, length, get_or, take, map}
 use Rattle.std.proofs.lemmas.List.{map_push, map-append, map-id}
 use Rattle.std.proofs.lemmas.List.Folds.{length-flat_map-take}
 use Rattle.std.proofs.lemmas.Iterator.Adapters.{YieldsList-from_vec}
 use Rattle.std.proofs.lemmas.Iterator.Consumers.{YieldsList-turn, YieldsList-so_far}
-use Rattle.pm_plan.specs.Plans.{var_row, class_rows, all_vars}
+use Rattle.pm_plan.specs.Plans.{var_row, all_vars}
 use Rattle.pm_plan.proofs.ClassRows.{class_rows-push, all_vars-push, all_vars-count}
 use Rattle.pm_plan.proofs.rows.all_classes.Goals as goal
 

@@ -1,10 +1,10 @@
-use Rattle.std.proofs.Common.{◌≡◌, ◌<◌, ◌+◌, ℕ, Bool, true, false, ap, sym, ◌∙◌, arith, length, take, refl, ◌||◌}
+use Rattle.std.proofs.Common.{◌≡◌, ◌<◌, ◌+◌, ap, sym, ◌∙◌, arith, length, take, refl, ◌||◌}
 use Rattle.std.specs.List.{list_any}
 use Rattle.std.specs.Prelude.{is_none}
 use Rattle.std.proofs.lemmas.List.{length-map}
-use Rattle.pm_plan.specs.Plans.{parents, is_off_tree, first_off_tree}
+use Rattle.pm_plan.specs.Plans.{parents, first_off_tree}
 use Rattle.pm_plan.proofs.Firsts.{none_from_some}
-use Rattle.pm_plan.proofs.Leasts.{LeastFrom, least_begin, least_skip, least_here, least_end}
+use Rattle.pm_plan.proofs.Leasts.{least_begin, least_skip, least_here, least_end}
 use Rattle.pm_plan.proofs.Roots.{root_more, parent_at}
 use Rattle.pm_plan.specs.Trees.{parent}
 use Rattle.pm_plan.proofs.tree.first_off_tree.Goals as goal

@@ -1,4 +1,4 @@
-use Rattle.std.proofs.Common.{◌≡◌, ℕ, Option, Some, None, sym, subst, arith, length}
+use Rattle.std.proofs.Common.{sym, subst, arith}
 use Rattle.std.proofs.lemmas.List.{length-map}
 use Rattle.pm_plan.specs.Plans.{parents}
 use Rattle.pm_plan.proofs.Chains.{ChainFrom, chain_begin, chain_more, chain_ends, chain_never}

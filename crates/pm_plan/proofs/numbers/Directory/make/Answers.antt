@@ -1,8 +1,7 @@
-use Rattle.std.proofs.Common.{◌≡◌, ℕ, List, ap, sym, ◌∙◌, arith, map, length, take}
+use Rattle.std.proofs.Common.{◌≡◌, ℕ, List, ap, sym, ◌∙◌, arith, map, take}
 use Rattle.std.proofs.lemmas.List.{length-map}
 use Rattle.std.proofs.lemmas.Grind.{common_steps}
 use Rattle.std.specs.Str.{bytes_eq}
-use Rattle.indexmap.specs.IndexMap.{get_by_text}
 use Rattle.pm_plan.specs.Numbers.{number_of, or_here, name_at}
 use Rattle.pm_plan.proofs.Firsts.{number_of-more}
 use Rattle.pm_plan.proofs.Leasts.{name_at-map}

@@ -1,12 +1,12 @@
-use Rattle.std.proofs.Common.{◌≡◌, ◌<◌, ◌∙◌, ap, sym, subst, arith, ℕ, List, ◌∷◌, length, Some, None}
+use Rattle.std.proofs.Common.{◌≡◌, ◌<◌, ◌∙◌, ap, sym, subst, arith, ℕ, List, ◌∷◌, length}
 use Rattle.std.specs.Prelude.{unwrap_or}
 use Rattle.std.proofs.lemmas.List.{length-map}
 use Rattle.pm_plan.specs.Plans.{parents}
-use Rattle.pm_plan.specs.Trees.{parent, hop, IsPath}
+use Rattle.pm_plan.specs.Trees.{hop, IsPath}
 use Rattle.pm_plan.proofs.Paths.{path_hop}
 use Rattle.pm_plan.proofs.Rooted.{Rooted}
 use Rattle.pm_plan.proofs.Valid.{valid_rooted}
-use Rattle.pm_plan.proofs.Walks.{Reaches, reach_begin, reach_more, reach_found, reach_root, height_less}
+use Rattle.pm_plan.proofs.Walks.{reach_begin, reach_more, reach_found, reach_root, height_less}
 use Rattle.pm_plan.proofs.plan.Plan.hop.Goals as goal
 
 pub loop-above-init : goal.loop-above-init

@@ -1,7 +1,7 @@
-use Rattle.std.proofs.Common.{◌≡◌, ◌∙◌, ◌⊎◌, inl, inr, ap, sym, arith, length, Err, None, Some}
-use Rattle.pm_plan.specs.Plans.{plan_of, count_refusal, all_vars, later_refusal}
+use Rattle.std.proofs.Common.{◌≡◌, ◌∙◌, ◌⊎◌, inl, inr, ap, sym, length, Err}
+use Rattle.pm_plan.specs.Plans.{plan_of, all_vars}
 use Rattle.pm_plan.specs.declared.fault.PlanFault.TheVariants as fault
-use Rattle.pm_plan.proofs.Made.{passed_ok, passed_err, passed_on, same_counts, count_refused, later_refused, plan_made, few_parts, kept}
+use Rattle.pm_plan.proofs.Made.{passed_ok, passed_err, passed_on, same_counts, count_refused, later_refused, plan_made, few_parts}
 use Rattle.pm_plan.proofs.plan.Plan.make.Goals as goal
 
 pub returns-in_err-check_counts-clause-refused : goal.returns-in_err-check_counts-clause-refused

@@ -1,7 +1,7 @@
-use Rattle.std.proofs.Common.{◌≡◌, ◌<◌, ◌≤◌, ◌+◌, suc, ◌∙◌, ap, sym, subst, arith, ℕ, List, length}
+use Rattle.std.proofs.Common.{◌<◌, ap, arith, length}
 use Rattle.std.proofs.lemmas.List.{length-map}
 use Rattle.pm_plan.specs.Plans.{parents}
-use Rattle.pm_plan.specs.Trees.{hop, path, path_len}
+use Rattle.pm_plan.specs.Trees.{path, path_len}
 use Rattle.pm_plan.proofs.Paths.{path_is, len_nearer, len_here, hop_in}
 use Rattle.pm_plan.proofs.Valid.{valid_rooted, valid_kept}
 use Rattle.pm_plan.proofs.Walks.{len_most}
