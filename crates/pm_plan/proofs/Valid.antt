@@ -1,18 +1,11 @@
 -- What is known of a valid plan.
-<<<<<<< HEAD
-use Rattle.std.proofs.Common.{◌≡◌, ℕ, zero, suc, ◌+◌, ◌<◌, ◌≤◌, refl, arith, ap, sym, ◌∙◌, subst, List, length, length-append, get_or, map, false, Bool, true, Option, Some, None, Result, Ok, Err}
-use Rattle.std.specs.Prelude.{option_map, nat_le, nat_lt, [], ◌∷◌, ◌++◌, ◌^◌, ◌&&◌, ◌||◌}
+use Rattle.std.proofs.Common.{◌≡◌, ℕ, ◌+◌, ◌<◌, ◌≤◌, refl, arith, ap, sym, ◌∙◌, subst, List, length, length-append, get_or, map, false, Bool, true, Option, Some, None, Ok}
+use Rattle.std.specs.Prelude.{option_map, nat_le, [], ◌∷◌, ◌^◌, ◌&&◌, ◌||◌}
 use Rattle.std.specs.List.{list_all, list_any}
-use Rattle.std.proofs.lemmas.List.{length-map, get_or-map}
-=======
-use Rattle.std.proofs.Common.{◌≡◌, ℕ, ◌<◌, refl, arith, ap, sym, ◌∙◌, List, length, get_or, map, Option, Some, None, Ok}
-use Rattle.std.specs.Prelude.{option_map, nat_le}
 use Rattle.std.proofs.lemmas.List.{length-map}
->>>>>>> 6a5422173383f82cce7dea11ae4a7dc228b04599
 use Rattle.std.proofs.lemmas.Bool.Decides.{nat_tests}
 use Rattle.pm_base.specs.Fits.{fits}
 use Rattle.pm_base.specs.Layouts.{Follow, IsLayout}
-use Rattle.pm_base.specs.declared.layout.ClassRow.{ClassRow}
 use Rattle.pm_base.specs.declared.layout.Layout.{Layout}
 use Rattle.pm_plan.specs.Limits.{IsWithinLimits}
 use Rattle.pm_plan.specs.declared.parts.AgentPart.{AgentPart}
@@ -26,7 +19,7 @@ use Rattle.pm_plan.specs.declared.fault.PlanFault.TheVariants as fault
 use Rattle.pm_plan.specs.declared.plan.Kind.TheVariants as kind
 use Rattle.pm_plan.specs.declared.plan.Plan.{Plan}
 use Rattle.pm_plan.proofs.Accepted.{rooted, none_passes}
-use Rattle.pm_plan.proofs.Made.{Kept, Lengths, kept, lengths}
+use Rattle.pm_plan.proofs.Made.{Kept, kept, lengths}
 use Rattle.pm_plan.proofs.Rooted.{Rooted}
 
 unless_ok : (o : Option PlanFault) (p q : Plan) → unless_refused o p ≡ Ok q → (o ≡ None) × (p ≡ q)
@@ -140,8 +133,8 @@ unfolding later_refusal
 valid_horizon plan valid =
     let e : later_refusal plan ≡ None = (parts_none plan valid).1 in
     let a = or_none (refused_if (is_late plan) (fault.Limit kind.Time))
-      (or_else (of_names fault.Name first_wrong plan) (or_else (of_names fault.Twice first_repeat plan)
-      (or_else (option_map fault.Tree (first_off_tree (parents plan.clps))) (place_refusal plan)))) e in
+    (or_else (of_names fault.Name first_wrong plan) (or_else (of_names fault.Twice first_repeat plan)
+    (or_else (option_map fault.Tree (first_off_tree (parents plan.clps))) (place_refusal plan)))) e in
     not_late plan.horizon (list_any starts_late plan.agents) (fault.Limit kind.Time) a.0
 
 row_count : (parts : PlanParts) → length (numbered parts).layout.classes ≡ length parts.classes
@@ -165,5 +158,5 @@ valid_limits plan valid =
       vars = k.vars;
       agents = k.agents;
       layout = subst (λ (p : Plan). IsLayout p.layout) is
-        (numbered_layout valid.parts (omega (arith, vars, l.vars, k.vars)) (omega (arith, classes, l.classes, k.classes)));
+          (numbered_layout valid.parts (omega (arith, vars, l.vars, k.vars)) (omega (arith, classes, l.classes, k.classes)));
     }
