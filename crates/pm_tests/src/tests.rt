@@ -1,4 +1,6 @@
-use pm_io::{Cue, FreeGate, MemSink, MemSource};
+ghost use Rattle.std.specs.Prelude.{None};
+
+use pm_io::{Cue, Failed, FreeGate, MemSink, MemSource, Source};
 use pm_top::{plain, top};
 use std::alloc::{AllocError, Global};
 use std::test::Fail;
@@ -60,6 +62,48 @@ fn words_of(alloc: Global, words: &[&str]) -> Result<Vec<String>, AllocError> {
         all.push(String::from_str(alloc, word)?)?;
     }
     Ok(all)
+}
+
+/// Gives one space at each call, without end, and keeps how it was asked.
+#[derive(Drop)]
+struct Endless {
+    takes: u64,
+    widest: usize,
+}
+
+impl Source for Endless {
+    ghost held = { λ _. None };
+
+    ghost faults = { λ _. 0 };
+
+    fn take(&mut self, buf: &mut [u8]) -> Result<usize, Failed> {
+        self.takes = self.takes.saturating_add(1);
+        self.widest = self.widest.max(buf.len());
+        match buf.first_mut() {
+            Some(place) => {
+                *place = b' ';
+                Ok(1)
+            }
+            None => Ok(0),
+        }
+    }
+}
+
+#[test]
+fn pieces_are_few_and_small(rt: HostRuntime) -> Result<(), Fail> {
+    let alloc = rt.alloc();
+    let words = words_of(alloc, &["seq"])?;
+    let mut input = Endless {
+        takes: 0,
+        widest: 0,
+    };
+    let mut out = MemSink::new(alloc, Vec::new(alloc));
+    let mut err = MemSink::new(alloc, Vec::new(alloc));
+    let report = plain(alloc, &words, &mut input, &mut out, &mut err);
+    assert_eq!(rt; report.status, 2);
+    assert_eq!(rt; input.takes, 4_194_305);
+    assert_eq!(rt; input.widest, 65_536);
+    Ok(())
 }
 
 #[test]
