@@ -17,7 +17,7 @@ use Rattle.pm_model.proofs.Starts.{starts-timely}
 use Rattle.pm_model.proofs.Turns.{rest-done, rest-step, turn-falls}
 use Rattle.pm_model.specs.Examples.{counter, small_plan, tie_read_first, tie_write_first}
 use Rattle.pm_model.specs.Hits.{hits}
-use Rattle.pm_model.specs.Runs.{Moved, IsTimely, rest, sequential_run, sequential_start, turn}
+use Rattle.pm_model.specs.Runs.{Moved, IsTimely, rest, sequential_run, sequential_start, sequential_turn}
 use Rattle.pm_model.specs.Traces.{end_line, trace, trace_text}
 use Rattle.pm_model.specs.declared.AgentState.{AgentState}
 use Rattle.pm_model.specs.declared.State.{State}
@@ -51,20 +51,20 @@ count_at t next = record {
   state = record { values = at (t + 1); agents = record { regs = []; next = next } ∷ [] };
 }
 
-counts-0 : turn counter (sequential_start counter) ≡ Some (count_at 0 (Some 1))
+counts-0 : sequential_turn counter (sequential_start counter) ≡ Some (count_at 0 (Some 1))
 unfolding step hits written
 counts-0 = simp (does-Set, value-Num, value-Part, value-Bin)
 
-counts-1 : turn counter (count_at 0 (Some 1)).state ≡ Some (count_at 1 (Some 2))
+counts-1 : sequential_turn counter (count_at 0 (Some 1)).state ≡ Some (count_at 1 (Some 2))
 unfolding step hits written
 counts-1 = simp (does-Set, value-Num, value-Part, value-Bin)
 
-counts-2 : turn counter (count_at 1 (Some 2)).state ≡ Some (count_at 2 None)
+counts-2 : sequential_turn counter (count_at 1 (Some 2)).state ≡ Some (count_at 2 None)
 unfolding step hits written
 counts-2 = simp (does-Set, value-Num, value-Part, value-Bin)
 
 -- the entries of a turn and of what follows
-goes : (plan : Plan) (s : State) (m : Moved) (es : List Entry) → IsTimely plan s → turn plan s ≡ Some m
+goes : (plan : Plan) (s : State) (m : Moved) (es : List Entry) → IsTimely plan s → sequential_turn plan s ≡ Some m
     → (IsTimely plan m.state → rest plan m.state ≡ es) → rest plan s ≡ m.entry ∷ es
 goes plan s m es ok t more = rest-step plan s m t ok ∙ ap (λ r. m.entry ∷ r) (more (turn-falls plan s m t ok).1)
 
@@ -101,11 +101,11 @@ waiting = record { regs = []; next = Some 0 }
 abbrev retired : AgentState
 retired = record { regs = []; next = None }
 
-write-first-0 : turn tie_write_first (sequential_start tie_write_first) ≡ Some (writes 0 (retired ∷ waiting ∷ []))
+write-first-0 : sequential_turn tie_write_first (sequential_start tie_write_first) ≡ Some (writes 0 (retired ∷ waiting ∷ []))
 unfolding step hits written
 write-first-0 = simp (does-Set, value-Num)
 
-write-first-1 : turn tie_write_first (writes 0 (retired ∷ waiting ∷ [])).state ≡ Some (reads 1 5 (retired ∷ retired ∷ []))
+write-first-1 : sequential_turn tie_write_first (writes 0 (retired ∷ waiting ∷ [])).state ≡ Some (reads 1 5 (retired ∷ retired ∷ []))
 unfolding step hits written
 write-first-1 = refl
 
@@ -118,11 +118,11 @@ pub write-first-trace : trace tie_write_first ≡ codes "0 w c0:=5,0\n0 r [c0=5,
 unfolding digits
 write-first-trace = traced tie_write_first _ write-first-run ∙ refl
 
-read-first-0 : turn tie_read_first (sequential_start tie_read_first) ≡ Some (reads 0 0 (retired ∷ waiting ∷ []))
+read-first-0 : sequential_turn tie_read_first (sequential_start tie_read_first) ≡ Some (reads 0 0 (retired ∷ waiting ∷ []))
 unfolding step hits written
 read-first-0 = refl
 
-read-first-1 : turn tie_read_first (reads 0 0 (retired ∷ waiting ∷ [])).state ≡ Some (writes 1 (retired ∷ retired ∷ []))
+read-first-1 : sequential_turn tie_read_first (reads 0 0 (retired ∷ waiting ∷ [])).state ≡ Some (writes 1 (retired ∷ retired ∷ []))
 unfolding step hits written
 read-first-1 = simp (does-Set, value-Num)
 

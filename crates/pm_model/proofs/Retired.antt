@@ -10,7 +10,7 @@ use Rattle.pm_model.proofs.Deeds.{deed-acts}
 use Rattle.pm_model.proofs.Turns.{least-found}
 use Rattle.pm_model.specs.declared.AgentState.{AgentState}
 use Rattle.pm_model.specs.declared.State.{State}
-use Rattle.pm_model.specs.Runs.{IsTimely, IsRetired, sooner, least_stamp, turn, turn_at, moved, deed, scene_of}
+use Rattle.pm_model.specs.Runs.{IsTimely, IsRetired, sooner, least_stamp, sequential_turn, turn_at, moved, deed, scene_of}
 
 neither : (b : Bool) (x y : Stamp) → cond b (Some y) (Some x) ≡ None → ⊥
 neither true x y h = cc h
@@ -47,7 +47,7 @@ takes-one plan s st count least h =
       ]
     ]
 
-pub turn-none : (plan : Plan) (s : State) → turn plan s ≡ None → IsTimely plan s → AllByRecursion IsRetired s.agents
+pub turn-none : (plan : Plan) (s : State) → sequential_turn plan s ≡ None → IsTimely plan s → AllByRecursion IsRetired s.agents
 turn-none plan s h ok = elim (and_then-None (turn_at plan s) (least_stamp 0 s.agents) h) [
   | inl e ↦ least-none 0 s.agents e
   | inr q ↦ absurd (takes-one plan s q.0 ok.count q.1 q.2)

@@ -13,7 +13,7 @@ use Rattle.pm_model.proofs.Deeds.{deed-waits}
 use Rattle.pm_model.specs.declared.AgentState.{AgentState}
 use Rattle.pm_model.specs.declared.State.{State}
 use Rattle.pm_model.specs.declared.Deed.{Deed}
-use Rattle.pm_model.specs.Runs.{IsTimely, IsDue, Moved, due, later, sooner, least_stamp, turn, turn_at, moved, deed, scene_of, turns, and_then_on, work_of, work, rest}
+use Rattle.pm_model.specs.Runs.{IsTimely, IsDue, Moved, due, later, sooner, least_stamp, sequential_turn, turn_at, moved, deed, scene_of, turns, and_then_on, work_of, work, rest}
 
 picked : (t : Bool) (a b st : Stamp) → cond t (Some b) (Some a) ≡ Some st → (Some a ≡ Some st) ⊎ (Some b ≡ Some st)
 picked true a b st h = inr h
@@ -84,7 +84,7 @@ pub record Took (plan : Plan) (s : State) (m : Moved) : Type 0 where
 same-agent : (xs : List AgentState) (i j : ℕ) (a b : AgentState) → i ≡ j → slice_get xs i ≡ Some a → slice_get xs j ≡ Some b → a ≡ b
 same-agent xs i j a b e g h = same_Some _ _ (sym g ∙ ap (slice_get xs) e ∙ h)
 
-pub took : (plan : Plan) (s : State) (m : Moved) → turn plan s ≡ Some m → Took plan s m
+pub took : (plan : Plan) (s : State) (m : Moved) → sequential_turn plan s ≡ Some m → Took plan s m
 took plan s m h =
     let (st, least, h1) = and_then-Some (turn_at plan s) (least_stamp 0 s.agents) m h in
     let (row, row_is, h2) = and_then-Some (λ row. option_and_then (λ agent. option_map (moved plan s st) (deed (scene_of plan s st row agent))) (slice_get s.agents st.agent)) (slice_get plan.agents st.agent) m h1 in
@@ -133,30 +133,30 @@ falls plan s stamp d agent ok one at next =
     )
 
 -- a turn lowers the work, and keeps what each state of a run keeps
-pub turn-falls : (plan : Plan) (s : State) (m : Moved) → turn plan s ≡ Some m → IsTimely plan s → (work plan m.state < work plan s) × IsTimely plan m.state
+pub turn-falls : (plan : Plan) (s : State) (m : Moved) → sequential_turn plan s ≡ Some m → IsTimely plan s → (work plan m.state < work plan s) × IsTimely plan m.state
 turn-falls plan s m h ok =
     let k = took plan s m h in
     subst (λ (q : Moved). (work plan q.state < work plan s) × IsTimely plan q.state) k.gives
     (falls plan s k.stamp k.done k.agent ok (deed-waits (scene_of plan s k.stamp k.row k.agent) k.done k.deed_is) k.agent_is k.time)
 
-turns-stop : (n : ℕ) (plan : Plan) (s : State) → turn plan s ≡ None → turns n plan s ≡ []
+turns-stop : (n : ℕ) (plan : Plan) (s : State) → sequential_turn plan s ≡ None → turns n plan s ≡ []
 turns-stop zero plan s h = refl
 turns-stop (suc n) plan s h = ap (and_then_on (turns n plan)) h
 
-turns-go : (n : ℕ) (plan : Plan) (s : State) (m : Moved) → turn plan s ≡ Some m → turns (suc n) plan s ≡ m.entry ∷ turns n plan m.state
+turns-go : (n : ℕ) (plan : Plan) (s : State) (m : Moved) → sequential_turn plan s ≡ Some m → turns (suc n) plan s ≡ m.entry ∷ turns n plan m.state
 turns-go n plan s m h = ap (and_then_on (turns n plan)) h
 
 -- any number of turns that is enough gives the same entries
 pub turns-enough : (n m : ℕ) (plan : Plan) (s : State) → IsTimely plan s → work plan s ≤ n → work plan s ≤ m → turns n plan s ≡ turns m plan s
-turns-enough zero m plan s ok a b = elim (option-cases (turn plan s)) [
+turns-enough zero m plan s ok a b = elim (option-cases (sequential_turn plan s)) [
   | inl h ↦ turns-stop zero plan s h ∙ sym (turns-stop m plan s h)
   | inr q ↦ absurd (omega (arith, (turn-falls plan s q.0 q.1 ok).0))
 ]
-turns-enough (suc n) zero plan s ok a b = elim (option-cases (turn plan s)) [
+turns-enough (suc n) zero plan s ok a b = elim (option-cases (sequential_turn plan s)) [
   | inl h ↦ turns-stop (suc n) plan s h
   | inr q ↦ absurd (omega (arith, (turn-falls plan s q.0 q.1 ok).0))
 ]
-turns-enough (suc n) (suc m) plan s ok a b = elim (option-cases (turn plan s)) [
+turns-enough (suc n) (suc m) plan s ok a b = elim (option-cases (sequential_turn plan s)) [
   | inl h ↦ turns-stop (suc n) plan s h ∙ sym (turns-stop (suc m) plan s h)
   | inr q ↦
       let f = turn-falls plan s q.0 q.1 ok in
@@ -166,12 +166,12 @@ turns-enough (suc n) (suc m) plan s ok a b = elim (option-cases (turn plan s)) [
 ]
 
 -- nothing is left where there is no next turn
-pub rest-done : (plan : Plan) (s : State) → turn plan s ≡ None → rest plan s ≡ []
+pub rest-done : (plan : Plan) (s : State) → sequential_turn plan s ≡ None → rest plan s ≡ []
 unfolding rest
 rest-done plan s h = turns-stop (work plan s) plan s h
 
 -- else the entry of the next turn, and what is left after it
-pub rest-step : (plan : Plan) (s : State) (m : Moved) → turn plan s ≡ Some m → IsTimely plan s → rest plan s ≡ m.entry ∷ rest plan m.state
+pub rest-step : (plan : Plan) (s : State) (m : Moved) → sequential_turn plan s ≡ Some m → IsTimely plan s → rest plan s ≡ m.entry ∷ rest plan m.state
 unfolding rest
 rest-step plan s m h ok =
     let f = turn-falls plan s m h ok in

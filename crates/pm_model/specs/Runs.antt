@@ -118,8 +118,8 @@ turn_at plan s stamp =
     (slice_get plan.agents stamp.agent)
 
 -- the sequential turn: that of the agent with the least (next time, number); none where all are retired
-abbrev pub turn : Plan → State → Option Moved
-turn plan s = option_and_then (turn_at plan s) (least_stamp 0 s.agents)
+abbrev pub sequential_turn : Plan → State → Option Moved
+sequential_turn plan s = option_and_then (turn_at plan s) (least_stamp 0 s.agents)
 
 -- the entry of a turn, and those that follow from the state that it leaves
 abbrev pub and_then_on : (State → List Entry) → Option Moved → List Entry
@@ -129,7 +129,7 @@ and_then_on on (Some m) = m.entry ∷ on m.state
 -- the entries of at most n turns
 abbrev pub turns : ℕ → Plan → State → List Entry
 turns zero plan s = []
-turns (suc n) plan s = and_then_on (turns n plan) (turn plan s)
+turns (suc n) plan s = and_then_on (turns n plan) (sequential_turn plan s)
 
 -- how many times an agent may still act at: those from its next time to the horizon
 abbrev pub work_of : Plan → AgentState → ℕ

@@ -10,7 +10,7 @@ use Rattle.pm_plan.specs.declared.plan.Plan.{Plan}
 use Rattle.pm_model.specs.declared.AgentState.{AgentState}
 use Rattle.pm_model.specs.declared.Deed.{Deed}
 use Rattle.pm_model.specs.declared.State.{State}
-use Rattle.pm_model.specs.Runs.{Scene, turn, turn_at, least_stamp, moved, deed, scene_of}
+use Rattle.pm_model.specs.Runs.{Scene, sequential_turn, turn_at, least_stamp, moved, deed, scene_of}
 
 -- what a step sees, by its parts
 abbrev pub scene : Program → List ClassRow → List Value → Stamp → List ℤ → Scene
@@ -19,7 +19,7 @@ scene program classes values stamp regs =
 
 pub turn-is : (plan : Plan) (s : State) (stamp : Stamp) (row : AgentRow) (agent : AgentState) (d : Deed)
     → least_stamp 0 s.agents ≡ Some stamp → slice_get plan.agents stamp.agent ≡ Some row → slice_get s.agents stamp.agent ≡ Some agent
-    → deed (scene_of plan s stamp row agent) ≡ Some d → turn plan s ≡ Some (moved plan s stamp d)
+    → deed (scene_of plan s stamp row agent) ≡ Some d → sequential_turn plan s ≡ Some (moved plan s stamp d)
 turn-is plan s stamp row agent d a b c e =
     ap (option_and_then (turn_at plan s)) a
     ∙ ap (option_and_then (λ (r : AgentRow). option_and_then (λ (g : AgentState). option_map (moved plan s stamp) (deed (scene_of plan s stamp r g))) (slice_get s.agents stamp.agent))) b
@@ -27,18 +27,18 @@ turn-is plan s stamp row agent d a b c e =
     ∙ ap (option_map (moved plan s stamp)) e
 
 -- no least stamp: no turn
-pub turn-none-left : (plan : Plan) (s : State) → least_stamp 0 s.agents ≡ None → turn plan s ≡ None
+pub turn-none-left : (plan : Plan) (s : State) → least_stamp 0 s.agents ≡ None → sequential_turn plan s ≡ None
 turn-none-left plan s e = ap (option_and_then (turn_at plan s)) e
 
 -- no row: no turn
-pub turn-no-row : (plan : Plan) (s : State) (stamp : Stamp) → least_stamp 0 s.agents ≡ Some stamp → slice_get plan.agents stamp.agent ≡ None → turn plan s ≡ None
+pub turn-no-row : (plan : Plan) (s : State) (stamp : Stamp) → least_stamp 0 s.agents ≡ Some stamp → slice_get plan.agents stamp.agent ≡ None → sequential_turn plan s ≡ None
 turn-no-row plan s stamp a b =
     ap (option_and_then (turn_at plan s)) a
     ∙ ap (option_and_then (λ (r : AgentRow). option_and_then (λ (g : AgentState). option_map (moved plan s stamp) (deed (scene_of plan s stamp r g))) (slice_get s.agents stamp.agent))) b
 
 -- no agent: no turn
 pub turn-no-agent : (plan : Plan) (s : State) (stamp : Stamp) (row : AgentRow) → least_stamp 0 s.agents ≡ Some stamp
-    → slice_get plan.agents stamp.agent ≡ Some row → slice_get s.agents stamp.agent ≡ None → turn plan s ≡ None
+    → slice_get plan.agents stamp.agent ≡ Some row → slice_get s.agents stamp.agent ≡ None → sequential_turn plan s ≡ None
 turn-no-agent plan s stamp row a b c =
     ap (option_and_then (turn_at plan s)) a
     ∙ ap (option_and_then (λ (r : AgentRow). option_and_then (λ (g : AgentState). option_map (moved plan s stamp) (deed (scene_of plan s stamp r g))) (slice_get s.agents stamp.agent))) b

@@ -5,7 +5,7 @@ use Rattle.std.specs.Io.KnownBytes.{Appends}
 use Rattle.pm_base.specs.declared.rows.Entry.{Entry}
 use Rattle.pm_plan.specs.declared.plan.Plan.{Plan}
 use Rattle.pm_model.specs.declared.State.{State}
-use Rattle.pm_model.specs.Runs.{Moved, IsTimely, rest, sequential_run, sequential_start, turn}
+use Rattle.pm_model.specs.Runs.{Moved, IsTimely, rest, sequential_run, sequential_start, sequential_turn}
 use Rattle.pm_model.specs.Traces.{line, trace_text, end_line, trace}
 use Rattle.pm_model.proofs.Turns.{rest-step, rest-done}
 use Rattle.pm_io.specs.Causes.{AppendsPart, AppendsPrefix}
@@ -24,7 +24,7 @@ sofar-first plan old = record { entries = []; left = refl; count = refl; grew = 
 text-one : (plan : Plan) (es : List Entry) (e : Entry) → trace_text plan (es ++ e ∷ []) ≡ trace_text plan es ++ line plan e
 text-one plan es e = flat_map-append (line plan) es (e ∷ []) ∙ ap (λ v. trace_text plan es ++ v) (append-nil (line plan e))
 
-pub sofar-wrote : (plan : Plan) (s : State) (m : Moved) (old now new : Option (List ℕ)) (n : ℕ) → IsTimely plan s → turn plan s ≡ Some m
+pub sofar-wrote : (plan : Plan) (s : State) (m : Moved) (old now new : Option (List ℕ)) (n : ℕ) → IsTimely plan s → sequential_turn plan s ≡ Some m
     → IsSoFar plan s old now n → Appends now new (line plan m.entry) → IsSoFar plan m.state old new (n + 1)
 sofar-wrote plan s m old now new n ok t so w = record {
   entries = so.entries ++ m.entry ∷ [];
@@ -41,24 +41,24 @@ trace-from plan s old now n so =
     ∙ ap (λ v. v ++ end_line (length (sequential_run plan))) (flat_map-append (line plan) so.entries (rest plan s))
     ∙ append_assoc (trace_text plan so.entries) (trace_text plan (rest plan s)) (end_line (length (sequential_run plan)))
 
-end-is : (plan : Plan) (s : State) (old now : Option (List ℕ)) (n : ℕ) → turn plan s ≡ None → IsSoFar plan s old now n → length (sequential_run plan) ≡ n
+end-is : (plan : Plan) (s : State) (old now : Option (List ℕ)) (n : ℕ) → sequential_turn plan s ≡ None → IsSoFar plan s old now n → length (sequential_run plan) ≡ n
 end-is plan s old now n t so =
     ap length so.left ∙ ap (λ v. length (so.entries ++ v)) (rest-done plan s t) ∙ ap length (append-nil so.entries) ∙ sym so.count
 
 -- what is left to write where all are retired
-trace-end : (plan : Plan) (s : State) (old now : Option (List ℕ)) (n : ℕ) → turn plan s ≡ None → (so : IsSoFar plan s old now n)
+trace-end : (plan : Plan) (s : State) (old now : Option (List ℕ)) (n : ℕ) → sequential_turn plan s ≡ None → (so : IsSoFar plan s old now n)
     → trace plan ≡ trace_text plan so.entries ++ end_line n
 trace-end plan s old now n t so =
     trace-from plan s old now n so
     ∙ ap (λ v. trace_text plan so.entries ++ (trace_text plan v ++ end_line (length (sequential_run plan)))) (rest-done plan s t)
     ∙ ap (λ v. trace_text plan so.entries ++ end_line v) (end-is plan s old now n t so)
 
-pub sofar-done : (plan : Plan) (s : State) (old now new : Option (List ℕ)) (n : ℕ) → turn plan s ≡ None
+pub sofar-done : (plan : Plan) (s : State) (old now new : Option (List ℕ)) (n : ℕ) → sequential_turn plan s ≡ None
     → IsSoFar plan s old now n → Appends now new (end_line n) → Appends old new (trace plan)
 sofar-done plan s old now new n t so w =
     rw (trace-end plan s old now n t so) (appends-append old now new (trace_text plan so.entries) (end_line n) so.grew w)
 
-pub sofar-end : (plan : Plan) (s : State) (old now new : Option (List ℕ)) (n : ℕ) → turn plan s ≡ None
+pub sofar-end : (plan : Plan) (s : State) (old now new : Option (List ℕ)) (n : ℕ) → sequential_turn plan s ≡ None
     → IsSoFar plan s old now n → AppendsPrefix now new (end_line n) → AppendsPrefix old new (trace plan)
 sofar-end plan s old now new n t so w =
     rw (trace-end plan s old now n t so) (prefix-after old now new (trace_text plan so.entries) (end_line n) so.grew w)
@@ -67,7 +67,7 @@ pub sofar-stop : (plan : Plan) (s : State) (old now : Option (List ℕ)) (n : �
 sofar-stop plan s old now n so =
     rw (trace-from plan s old now n so) (prefix-after old now now (trace_text plan so.entries) _ so.grew (prefix-none now _))
 
-pub sofar-fault : (plan : Plan) (s : State) (m : Moved) (old now new : Option (List ℕ)) (n : ℕ) → IsTimely plan s → turn plan s ≡ Some m
+pub sofar-fault : (plan : Plan) (s : State) (m : Moved) (old now new : Option (List ℕ)) (n : ℕ) → IsTimely plan s → sequential_turn plan s ≡ Some m
     → IsSoFar plan s old now n → AppendsPart now new (line plan m.entry) → AppendsPrefix old new (trace plan)
 sofar-fault plan s m old now new n ok t so w =
     let tail = trace_text plan (rest plan m.state) ++ end_line (length (sequential_run plan)) in

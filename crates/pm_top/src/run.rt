@@ -2,11 +2,11 @@ ghost use Rattle.std.specs.Prelude.{◌≡◌, ◌≤◌, ◌<◌, ◌^◌, ◌�
 ghost use Rattle.std.specs.Io.KnownBytes.{Appends};
 ghost use Rattle.pm_io.specs.Causes.{AppendsPart, AppendsPrefix, Rose};
 ghost use Rattle.pm_plan.specs.Limits.{IsWithinLimits};
-ghost use Rattle.pm_model.specs.Runs.{Moved, IsTimely, sequential_start, turn, work};
+ghost use Rattle.pm_model.specs.Runs.{Moved, IsTimely, sequential_start, sequential_turn, work};
 ghost use Rattle.pm_model.specs.Traces.{line, end_line, trace};
 
 use crate::text::{end_line, line};
-use crate::turn::{sequential_start, turn};
+use crate::turn::{sequential_start, sequential_turn};
 use pm_io::{Sink, write_whole};
 use pm_model::State;
 use pm_plan::Plan;
@@ -33,15 +33,15 @@ pub enum Ran {
 fn write_turn<K: Sink>(alloc: Global, plan: &Plan, state: &mut State, out: &mut K) -> Turned
     requires limits { IsWithinLimits plan.now }
     requires timely { IsTimely plan.now state.old }
-    ensures wrote { result ≡ Turned.Wrote → (m : Moved) × (turn plan.now state.old ≡ Some m) × (m.state ≡ state.new) × Appends (K.holds out.old) (K.holds out.new) (line plan.now m.entry) }
-    ensures end { result ≡ Turned.End → (turn plan.now state.old ≡ None) × (state.new ≡ state.old) × (out.new ≡ out.old) }
-    ensures fault { result ≡ Turned.WriteFault → (m : Moved) × (turn plan.now state.old ≡ Some m) × AppendsPart (K.holds out.old) (K.holds out.new) (line plan.now m.entry) }
+    ensures wrote { result ≡ Turned.Wrote → (m : Moved) × (sequential_turn plan.now state.old ≡ Some m) × (m.state ≡ state.new) × Appends (K.holds out.old) (K.holds out.new) (line plan.now m.entry) }
+    ensures end { result ≡ Turned.End → (sequential_turn plan.now state.old ≡ None) × (state.new ≡ state.old) × (out.new ≡ out.old) }
+    ensures fault { result ≡ Turned.WriteFault → (m : Moved) × (sequential_turn plan.now state.old ≡ Some m) × AppendsPart (K.holds out.old) (K.holds out.new) (line plan.now m.entry) }
     ensures memory { result ≡ Turned.Memory → out.new ≡ out.old }
     ensures cause { result ≡ Turned.WriteFault → Rose (K.faults out.old) (K.faults out.new) ⊎ Rose (K.stalls out.old) (K.stalls out.new) }
     ensures faults { K.faults out.old ≤ K.faults out.new }
     ensures stalls { K.stalls out.old ≤ K.stalls out.new }
 {
-    let entry = match turn(alloc, plan, state) {
+    let entry = match sequential_turn(alloc, plan, state) {
         Ok(Some(entry)) => entry,
         Ok(None) => return Turned::End,
         Err(_) => return Turned::Memory,

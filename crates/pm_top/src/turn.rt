@@ -2,7 +2,7 @@ ghost use Rattle.std.specs.Prelude.{◌≡◌, ◌≤◌, ◌<◌, ◌^◌, Some
 ghost use Rattle.pm_base.specs.declared.program.RegRow.{RegRow};
 ghost use Rattle.pm_plan.specs.declared.plan.VarRow.{VarRow};
 ghost use Rattle.pm_plan.specs.Limits.{IsWithinLimits};
-ghost use Rattle.pm_model.specs.Runs.{Scene, changed, deed, due, first_agent, later, least_stamp, sequential_start, sooner, turn, IsTimely};
+ghost use Rattle.pm_model.specs.Runs.{Scene, changed, deed, due, first_agent, later, least_stamp, sequential_start, sooner, sequential_turn, IsTimely};
 
 use crate::hits::hits;
 use pm_base::{Act, Entry, List, Memory, RegRow, Stamp, Value, Write};
@@ -148,10 +148,10 @@ fn change_all(values: &mut List<Value>, writes: &[Write])
 }
 
 /// The sequential turn. Nothing changes where all agents are retired, or at `Memory`.
-pub fn turn(alloc: Global, plan: &Plan, state: &mut State) -> Result<Option<Entry>, Memory>
+pub fn sequential_turn(alloc: Global, plan: &Plan, state: &mut State) -> Result<Option<Entry>, Memory>
     requires limits { IsWithinLimits plan.now }
     requires timely { IsTimely plan.now state.old }
-    ensures turn { IfOk result (λ r. MatchOption r ((turn plan.now state.old ≡ None) × (state.new ≡ state.old)) (λ e. turn plan.now state.old ≡ Some (record { entry = e; state = state.new }))) }
+    ensures moved { IfOk result (λ r. MatchOption r ((sequential_turn plan.now state.old ≡ None) × (state.new ≡ state.old)) (λ e. sequential_turn plan.now state.old ≡ Some (record { entry = e; state = state.new }))) }
     ensures kept { OnErr result (state.new ≡ state.old) }
 {
     let Some(stamp) = least_stamp(state.agents.as_slice()) else {

@@ -1,7 +1,7 @@
 use Rattle.std.proofs.Common.{◌∙◌, sym, ap, arith}
 use Rattle.pm_model.specs.Runs.{least_stamp}
 use Rattle.pm_model.proofs.Turns.{least-due}
-use Rattle.pm_top.proofs.turn.turn.Goals as goal
+use Rattle.pm_top.proofs.turn.sequential_turn.Goals as goal
 
 pub deed-requires-clause-time : goal.deed-requires-clause-time
 deed-requires-clause-time c =
