@@ -9,3 +9,4 @@ pub mod Accepted
 pub mod Paths
 pub mod Valid
 pub mod Walks
+pub mod Own

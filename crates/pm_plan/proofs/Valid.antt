@@ -49,6 +49,24 @@ parts_none plan valid = or_none (count_refusal (length plan.clps) (length plan.c
 pub valid_kept : (plan : Plan) → IsValid plan → Kept (length plan.clps) (length plan.classes) (length plan.vars) (length plan.agents)
 valid_kept plan valid = kept _ _ _ _ (parts_none plan valid).0
 
+-- no name of a CLP stands twice
+pub valid_once : (plan : Plan) → IsValid plan → first_repeat (map (λ c. c.name) plan.clps) ≡ None
+unfolding later_refusal
+valid_once plan valid =
+    let e : later_refusal plan ≡ None = (parts_none plan valid).1 in
+    let tree = or_else (option_map fault.Tree (first_off_tree (parents plan.clps))) (place_refusal plan) in
+    let twice = of_names fault.Twice first_repeat plan in
+    let name = of_names fault.Name first_wrong plan in
+    let time = refused_if (is_late plan) (fault.Limit kind.Time) in
+    let a = or_none time (or_else name (or_else twice tree)) e in
+    let b = or_none name (or_else twice tree) a.1 in
+    let d = or_none twice tree b.1 in
+    let clps = first_repeat (map (λ c. c.name) plan.clps) in
+    let classes = option_map (fault.Twice kind.Class) (first_repeat plan.classes) in
+    let vars = option_map (fault.Twice kind.Var) (first_repeat (map (λ v. v.name) plan.vars)) in
+    let agents = option_map (fault.Twice kind.Agent) (first_repeat (map (λ a. a.name) plan.agents)) in
+    map_none (fault.Twice kind.Clp) clps (or_none (option_map (fault.Twice kind.Clp) clps) (or_else classes (or_else vars agents)) d.0).0
+
 tree_and_places : (plan : Plan) → IsValid plan → (first_off_tree (parents plan.clps) ≡ None) × (place_refusal plan ≡ None)
 unfolding later_refusal
 tree_and_places plan valid =

@@ -1,11 +1,11 @@
 //! Laws of the tree of a plan, for proofs: each function does nothing, and its contract is the law.
 
-ghost use Rattle.std.specs.Prelude.{◌≡◌, ◌≢◌, ◌<◌, ◌≤◌, ◌+◌, ◌⊎◌, ℕ, List, [], ◌∷◌, length, map, slice_index, true, Some, None};
+ghost use Rattle.std.specs.Prelude.{◌≡◌, ◌≢◌, ◌<◌, ◌≤◌, ◌+◌, ◌^◌, ◌⊎◌, ℕ, List, [], ◌∷◌, length, map, slice_index, true, Some, None, Ok};
 ghost use Rattle.std.specs.List.{list_all};
 ghost use Rattle.pm_base.specs.Fits.{fits};
 ghost use Rattle.pm_plan.specs.declared.plan.AgentRow.{AgentRow as TheAgent};
 ghost use Rattle.pm_plan.specs.Limits.{IsWithinLimits};
-ghost use Rattle.pm_plan.specs.Plans.{IsValid, first_off_tree, parents};
+ghost use Rattle.pm_plan.specs.Plans.{all_vars, first_off_tree, own_parts, parents, plan_of, rules_fit, IsValid};
 ghost use Rattle.pm_plan.specs.Trees.{edge, has, hop, path, path_len, IsPath};
 
 use crate::Plan;
@@ -92,6 +92,14 @@ pub fn places_exist(plan: &Plan)
         slice_index (map (λ v. v.at) plan.now.vars) i < length plan.now.clps }
     ensures agents { (i : ℕ) → i < length plan.now.agents →
         slice_index (map (λ a. a.home) plan.now.agents) i < length plan.now.clps }
+{}
+
+/// A plan's own parts meet the condition of `Plan::make`, and are the parts of that plan.
+pub fn own_parts_make_the_plan(plan: &Plan)
+    requires { IsValid plan.now }
+    ensures few { length (all_vars (own_parts plan.now).classes) < 2 ^ 32 }
+    ensures rules { rules_fit (own_parts plan.now).classes (own_parts plan.now).agents ≡ true }
+    ensures made { plan_of (own_parts plan.now) ≡ Ok plan.now }
 {}
 
 /// Worked rows of the definitions: which process is off the tree, and ways through a tree.
