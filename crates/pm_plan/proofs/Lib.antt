@@ -10,3 +10,4 @@ pub mod Paths
 pub mod Valid
 pub mod Walks
 pub mod Own
+pub mod Back

@@ -1,6 +1,6 @@
 //! Laws of plans and of their trees, for proofs: each function does nothing, and its contract is the law.
 
-ghost use Rattle.std.specs.Prelude.{◌≡◌, ◌≢◌, ◌<◌, ◌≤◌, ◌+◌, ◌^◌, ◌⊎◌, ℕ, List, [], ◌∷◌, length, map, slice_index, true, Some, None, Ok, Err, codes};
+ghost use Rattle.std.specs.Prelude.{◌≡◌, ◌≢◌, ◌<◌, ◌≤◌, ◌+◌, ◌^◌, ◌⊎◌, ℕ, List, [], ◌∷◌, length, map, reverse, slice_index, true, Some, None, Ok, Err, codes};
 ghost use Rattle.std.specs.List.{list_all};
 ghost use Rattle.pm_base.specs.Fits.{fits};
 ghost use Rattle.pm_plan.specs.declared.plan.AgentRow.{AgentRow as TheAgent};
@@ -49,6 +49,14 @@ pub fn back_is_as_far(plan: &Plan, from: u32, to: u32)
     requires from { from < length plan.now.clps }
     requires to { to < length plan.now.clps }
     ensures { path_len (parents plan.now.clps) from to ≡ path_len (parents plan.now.clps) to from }
+{}
+
+/// The way back visits the same processes in reverse.
+pub fn back_is_the_way_reversed(plan: &Plan, from: u32, to: u32)
+    requires valid { IsValid plan.now }
+    requires from { from < length plan.now.clps }
+    requires to { to < length plan.now.clps }
+    ensures { reverse (from ∷ path (parents plan.now.clps) from to) ≡ to ∷ path (parents plan.now.clps) to from }
 {}
 
 /// Lengths add along a path.
