@@ -9,3 +9,5 @@ pub mod Accepted
 pub mod Paths
 pub mod Valid
 pub mod Walks
+pub mod Own
+pub mod Back

@@ -49,9 +49,16 @@ parts_none plan valid = or_none (count_refusal (length plan.clps) (length plan.c
 pub valid_kept : (plan : Plan) → IsValid plan → Kept (length plan.clps) (length plan.classes) (length plan.vars) (length plan.agents)
 valid_kept plan valid = kept _ _ _ _ (parts_none plan valid).0
 
-tree_and_places : (plan : Plan) → IsValid plan → (first_off_tree (parents plan.clps) ≡ None) × (place_refusal plan ≡ None)
+-- what refuses none of a plan
+record Passed (plan : Plan) : Type 0 where
+  time : refused_if (is_late plan) (fault.Limit kind.Time) ≡ None
+  twice : of_names fault.Twice first_repeat plan ≡ None
+  tree : first_off_tree (parents plan.clps) ≡ None
+  places : place_refusal plan ≡ None
+
+valid_passed : (plan : Plan) → IsValid plan → Passed plan
 unfolding later_refusal
-tree_and_places plan valid =
+valid_passed plan valid =
     let e : later_refusal plan ≡ None = (parts_none plan valid).1 in
     let tree = option_map fault.Tree (first_off_tree (parents plan.clps)) in
     let twice = of_names fault.Twice first_repeat plan in
@@ -61,13 +68,23 @@ tree_and_places plan valid =
     let b = or_none name (or_else twice (or_else tree (place_refusal plan))) a.1 in
     let d = or_none twice (or_else tree (place_refusal plan)) b.1 in
     let f = or_none tree (place_refusal plan) d.1 in
-    (map_none fault.Tree (first_off_tree (parents plan.clps)) f.0, f.1)
+    record { time = a.0; twice = d.0; tree = map_none fault.Tree (first_off_tree (parents plan.clps)) f.0; places = f.1 }
+
+-- no name of a CLP stands twice
+pub valid_once : (plan : Plan) → IsValid plan → first_repeat (map (λ c. c.name) plan.clps) ≡ None
+valid_once plan valid =
+    let clps = first_repeat (map (λ c. c.name) plan.clps) in
+    let classes = option_map (fault.Twice kind.Class) (first_repeat plan.classes) in
+    let vars = option_map (fault.Twice kind.Var) (first_repeat (map (λ v. v.name) plan.vars)) in
+    let agents = option_map (fault.Twice kind.Agent) (first_repeat (map (λ a. a.name) plan.agents)) in
+    let e = or_none (option_map (fault.Twice kind.Clp) clps) (or_else classes (or_else vars agents)) (valid_passed plan valid).twice in
+    map_none (fault.Twice kind.Clp) clps e.0
 
 pub valid_rooted : (plan : Plan) → IsValid plan → Rooted (parents plan.clps)
 valid_rooted plan valid =
     let k = valid_kept plan valid in
     let l = length-map plan.clps (λ r. r.parent) in
-    rooted (parents plan.clps) (let s = k.some in omega (arith, l, s)) (tree_and_places plan valid).0
+    rooted (parents plan.clps) (let s = k.some in omega (arith, l, s)) (valid_passed plan valid).tree
 
 pub valid_inside : (plan : Plan) (c : ℕ) → c < length plan.clps → c < length (parents plan.clps)
 valid_inside plan c lt = (let l = length-map plan.clps (λ r. r.parent) in omega (arith, l, lt))
@@ -80,7 +97,7 @@ places_none : (plan : Plan) → IsValid plan → (first_nowhere (length plan.clp
 places_none plan valid =
     let vars = first_nowhere (length plan.clps) (map (λ v. v.at) plan.vars) in
     let agents = first_nowhere (length plan.clps) (map (λ a. a.home) plan.agents) in
-    let e = or_none (option_map (fault.Place kind.Var) vars) (option_map (fault.Place kind.Agent) agents) (tree_and_places plan valid).1 in
+    let e = or_none (option_map (fault.Place kind.Var) vars) (option_map (fault.Place kind.Agent) agents) (valid_passed plan valid).places in
     (map_none (fault.Place kind.Var) vars e.0, map_none (fault.Place kind.Agent) agents e.1)
 
 pub valid_var : (plan : Plan) → IsValid plan → (i : ℕ) → i < length plan.vars → get_or (map (λ v. v.at) plan.vars) i 0 < length plan.clps
@@ -129,13 +146,7 @@ numbered_layout parts vars classes = record {
 
 -- the horizon of a valid plan is no later than a plan may name
 pub valid_horizon : (plan : Plan) → IsValid plan → plan.horizon ≤ 1000000000000
-unfolding later_refusal
-valid_horizon plan valid =
-    let e : later_refusal plan ≡ None = (parts_none plan valid).1 in
-    let a = or_none (refused_if (is_late plan) (fault.Limit kind.Time))
-    (or_else (of_names fault.Name first_wrong plan) (or_else (of_names fault.Twice first_repeat plan)
-    (or_else (option_map fault.Tree (first_off_tree (parents plan.clps))) (place_refusal plan)))) e in
-    not_late plan.horizon (list_any starts_late plan.agents) (fault.Limit kind.Time) a.0
+valid_horizon plan valid = not_late plan.horizon (list_any starts_late plan.agents) (fault.Limit kind.Time) (valid_passed plan valid).time
 
 row_count : (parts : PlanParts) → length (numbered parts).layout.classes ≡ length parts.classes
 unfolding numbered

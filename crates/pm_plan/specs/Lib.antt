@@ -3,3 +3,4 @@ pub mod Limits
 pub mod Numbers
 pub mod Plans
 pub mod Trees
+pub mod Rows

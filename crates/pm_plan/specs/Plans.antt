@@ -1,9 +1,9 @@
 -- The plan of parts, or why there is none.
-use Rattle.std.specs.Prelude.{◌≡◌, ℕ, suc, ◌+◌, ◌^◌, ◌<◌, Bool, true, false, ◌||◌, ◌&&◌, if◌then◌else◌, nat_lt, nat_le, List, [], ◌∷◌, length, take, get_or, map, Option, Some, None, is_none, option_map, unwrap_or, Result, Ok, Err}
+use Rattle.std.specs.Prelude.{◌≡◌, ℕ, suc, ◌+◌, ◌^◌, ◌<◌, Bool, true, false, ◌||◌, ◌&&◌, if◌then◌else◌, nat_lt, nat_le, List, [], ◌∷◌, length, take, get_or, map, Option, Some, None, is_none, option_map, unwrap_or, Result, Ok, Err, drop}
 use Rattle.std.specs.List.{flat_map, list_all, list_any}
 use Rattle.pm_base.specs.Fits.{fits}
 use Rattle.pm_base.specs.declared.layout.ClassRow.{ClassRow}
-use Rattle.pm_plan.specs.Numbers.{least, number_of, first_wrong, first_repeat}
+use Rattle.pm_plan.specs.Numbers.{least, number_of, name_at, first_wrong, first_repeat}
 use Rattle.pm_plan.specs.Trees.{parent, ups}
 use Rattle.pm_plan.specs.declared.fault.PlanFault.{PlanFault}
 use Rattle.pm_plan.specs.declared.fault.PlanFault.TheVariants as fault
@@ -163,3 +163,30 @@ pub record IsValid (plan : Plan) : Type 0 where
   pub parts : PlanParts
   pub made : plan_of parts ≡ Ok plan
   pub rules : rules_fit parts.classes parts.agents ≡ true
+
+abbrev pub own_clp : List (List ℕ) → ClpRow → ClpPart
+own_clp names row = record { name = row.name; parent = option_map (name_at names) row.parent }
+
+abbrev pub own_var : List (List ℕ) → VarRow → VarPart
+own_var names row = record { name = row.name; at = name_at names row.at; value = row.value }
+
+abbrev pub own_agent : List (List ℕ) → AgentRow → AgentPart
+own_agent names row = record { name = row.name; home = name_at names row.home; start = row.start; program = row.program }
+
+-- each class with its name and with those of the variables that the layout gives it
+abbrev pub own_classes : List (List ℕ) → List ClassRow → List VarPart → List ClassPart
+own_classes [] rows vars = []
+own_classes (n ∷ ns) [] vars = []
+own_classes (n ∷ ns) (c ∷ cs) vars = (record { name = n; vars = take c.count (drop c.first vars) }) ∷ own_classes ns cs vars
+
+-- a plan's own parts: each parent and place is the name of the CLP of that number
+unfoldable pub own_parts : Plan → PlanParts
+own_parts plan =
+    let names = map (λ (c : ClpRow). c.name) plan.clps in
+    record {
+      horizon = plan.horizon;
+      move_after = plan.move_after;
+      clps = map (own_clp names) plan.clps;
+      classes = own_classes plan.classes plan.layout.classes (map (own_var names) plan.vars);
+      agents = map (own_agent names) plan.agents;
+    }
