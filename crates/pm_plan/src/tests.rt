@@ -48,7 +48,7 @@ const LIMITS: Refusals = &[
     ),
     (
         Some(PlanFault::Limit { kind: Kind::Clp }),
-        &[Sketch(LAST + 1, &[], &[], &[])],
+        &[Sketch(9, &[], &[], &[]), Sketch(LAST + 1, &[], &[], &[])],
     ),
     (
         Some(PlanFault::Limit { kind: Kind::Class }),
