@@ -126,7 +126,10 @@ const REPEATS: Refusals = &[
             kind: Kind::Clp,
             index: 1,
         }),
-        &[Sketch(9, &[("a", ""), ("a", "a")], &[("c", &[]), ("c", &[])], &[])],
+        &[
+            Sketch(9, &[("a", ""), ("a", "a")], &[], &[]),
+            Sketch(9, &[("a", ""), ("a", "a")], &[("c", &[]), ("c", &[])], &[]),
+        ],
     ),
     (
         Some(PlanFault::Twice {
