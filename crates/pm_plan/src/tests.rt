@@ -1,26 +1,380 @@
-ghost use Rattle.std.specs.Prelude.{IfOk};
-ghost use Rattle.pm_plan.specs.Plans.{IsValid};
+ghost use Rattle.std.specs.Prelude.{◌≡◌, ◌<◌, ◌^◌, true, List as Seq, length, IfOk};
+ghost use Rattle.pm_base.specs.Fits.{fits};
+ghost use Rattle.pm_base.specs.declared.layout.Layout.{Layout};
+ghost use Rattle.pm_plan.specs.Plans.{IsValid, all_vars, rules_fit};
+ghost use Rattle.pm_plan.specs.declared.parts.ClassPart.{ClassPart as TheClass};
 
-use crate::{ClpPart, Kind, Plan, PlanFault, PlanParts};
-use pm_base::{List, Memory, Name};
+use crate::{AgentPart, ClassPart, ClpPart, Kind, Plan, PlanFault, PlanParts, VarPart};
+use pm_base::{List, Memory, Name, Program, Value};
 use std::alloc::Global;
 use std::test::Fail;
 
-/// Processes with their parents: the empty text stands for no parent, and a row `-` for no process.
-fn clps(alloc: Global, rows: &[(&str, &str)]) -> Result<List<ClpPart>, Memory> {
+type Pairs<'a> = &'a [(&'a str, &'a str)];
+
+type Classes<'a> = &'a [(&'a str, Pairs<'a>)];
+
+type Agents<'a> = &'a [(&'a str, &'a str, u64)];
+
+/// Parts in short: the horizon; processes with their parents, where the empty text stands for no parent; classes with
+/// their variables, and each variable's process; agents with their homes and starts. The name `?` is given beside it.
+struct Sketch<'a>(u64, Pairs<'a>, Classes<'a>, Agents<'a>);
+
+const LAST: u64 = 1_000_000_000_000;
+
+/// A name as long as one may be, and one that is longer.
+const LONG: &str = "abcdefghijklmnopqrstuvwxyz_01234";
+
+const LONGER: &str = "abcdefghijklmnopqrstuvwxyz_012345";
+
+const ONE: Pairs<'static> = &[("a", "")];
+
+const BARE: (&str, Pairs<'static>) = ("c", &[]);
+
+type Refusals = &'static [(Option<PlanFault>, &'static [Sketch<'static>])];
+
+const LIMITS: Refusals = &[
+    (
+        None,
+        &[
+            Sketch(LAST, ONE, &[], &[("g", "a", LAST)]),
+            Sketch(0, ONE, &[("a", &[("a", "a")])], &[("a", "a", 0)]),
+            Sketch(
+                9,
+                &[(LONG, "")],
+                &[(LONG, &[(LONG, LONG)])],
+                &[(LONG, LONG, 0)],
+            ),
+        ],
+    ),
+    (
+        Some(PlanFault::Limit { kind: Kind::Clp }),
+        &[Sketch(9, &[], &[], &[]), Sketch(LAST + 1, &[], &[], &[])],
+    ),
+    (
+        Some(PlanFault::Limit { kind: Kind::Class }),
+        &[Sketch(LAST + 1, ONE, &[BARE; 65], &[])],
+    ),
+    (
+        Some(PlanFault::Limit { kind: Kind::Time }),
+        &[
+            Sketch(LAST + 1, ONE, &[], &[]),
+            Sketch(9, ONE, &[], &[("g", "a", 0), ("h", "a", LAST + 1)]),
+            Sketch(LAST + 1, &[("A", "")], &[], &[]),
+        ],
+    ),
+];
+
+/// What is no name.
+const WRONG: &[&str] = &[LONGER, "", "2b", "_b", "bB", "b-c"];
+
+const NAMES: Refusals = &[
+    (
+        Some(PlanFault::Name {
+            kind: Kind::Clp,
+            index: 1,
+        }),
+        &[
+            Sketch(9, &[("a", ""), ("?", "a")], &[], &[]),
+            Sketch(9, &[("a", ""), ("?", "a"), ("C", "a")], &[("?", &[])], &[]),
+        ],
+    ),
+    (
+        Some(PlanFault::Name {
+            kind: Kind::Class,
+            index: 1,
+        }),
+        &[
+            Sketch(9, ONE, &[("c", &[]), ("?", &[])], &[]),
+            Sketch(9, ONE, &[("c", &[("?", "a")]), ("?", &[])], &[]),
+        ],
+    ),
+    (
+        Some(PlanFault::Name {
+            kind: Kind::Var,
+            index: 1,
+        }),
+        &[
+            Sketch(9, ONE, &[("c", &[("v", "a")]), ("d", &[("?", "a")])], &[]),
+            Sketch(
+                9,
+                ONE,
+                &[("c", &[("v", "a"), ("?", "a")])],
+                &[("?", "a", 0)],
+            ),
+        ],
+    ),
+    (
+        Some(PlanFault::Name {
+            kind: Kind::Agent,
+            index: 1,
+        }),
+        &[
+            Sketch(9, ONE, &[], &[("g", "a", 0), ("?", "a", 0)]),
+            Sketch(
+                9,
+                &[("a", ""), ("a", "a")],
+                &[],
+                &[("g", "a", 0), ("?", "a", 0)],
+            ),
+        ],
+    ),
+];
+
+const REPEATS: Refusals = &[
+    (
+        Some(PlanFault::Twice {
+            kind: Kind::Clp,
+            index: 1,
+        }),
+        &[
+            Sketch(9, &[("a", ""), ("a", "a")], &[], &[]),
+            Sketch(9, &[("a", ""), ("a", "a")], &[("c", &[]), ("c", &[])], &[]),
+        ],
+    ),
+    (
+        Some(PlanFault::Twice {
+            kind: Kind::Class,
+            index: 1,
+        }),
+        &[
+            Sketch(9, ONE, &[BARE, BARE], &[]),
+            Sketch(9, ONE, &[("c", &[("v", "a")]), ("c", &[("v", "a")])], &[]),
+        ],
+    ),
+    (
+        Some(PlanFault::Twice {
+            kind: Kind::Var,
+            index: 2,
+        }),
+        &[
+            Sketch(
+                9,
+                ONE,
+                &[("c", &[("v", "a"), ("w", "a")]), ("d", &[("v", "a")])],
+                &[],
+            ),
+            Sketch(
+                9,
+                ONE,
+                &[("c", &[("v", "a"), ("w", "a"), ("w", "a")])],
+                &[("g", "a", 0); 2],
+            ),
+        ],
+    ),
+    (
+        Some(PlanFault::Twice {
+            kind: Kind::Agent,
+            index: 1,
+        }),
+        &[
+            Sketch(9, ONE, &[], &[("g", "a", 0); 2]),
+            Sketch(9, &[("a", "b")], &[], &[("g", "a", 0); 2]),
+        ],
+    ),
+];
+
+const TREES_AND_PLACES: Refusals = &[
+    (
+        Some(PlanFault::Tree { clp: 0 }),
+        &[
+            Sketch(9, &[("a", "a")], &[], &[]),
+            Sketch(9, &[("a", "b")], &[], &[]),
+            Sketch(9, &[("a", "b"), ("b", "a")], &[], &[]),
+            Sketch(
+                9,
+                &[("a", "b"), ("b", "c"), ("c", "b"), ("d", "")],
+                &[],
+                &[],
+            ),
+            Sketch(9, &[("a", "a")], &[("c", &[("v", "b")])], &[]),
+        ],
+    ),
+    (
+        Some(PlanFault::Tree { clp: 1 }),
+        &[
+            Sketch(9, &[("a", ""), ("b", "b")], &[], &[]),
+            Sketch(9, &[("a", ""), ("b", "c"), ("c", "b")], &[], &[]),
+            Sketch(9, &[("a", ""), ("b", "")], &[], &[]),
+            Sketch(9, &[("a", "b"), ("b", "x"), ("c", "")], &[], &[]),
+            Sketch(9, &[("a", ""), ("b", "x"), ("c", "c"), ("d", "")], &[], &[]),
+        ],
+    ),
+    (
+        Some(PlanFault::Tree { clp: 2 }),
+        &[
+            Sketch(9, &[("a", ""), ("b", "a"), ("c", "")], &[], &[]),
+            Sketch(9, &[("a", "b"), ("b", ""), ("c", "")], &[], &[]),
+        ],
+    ),
+    (
+        Some(PlanFault::Place {
+            kind: Kind::Var,
+            index: 1,
+        }),
+        &[
+            Sketch(
+                9,
+                ONE,
+                &[("c", &[("v", "a")]), ("d", &[("w", "b"), ("x", "b")])],
+                &[],
+            ),
+            Sketch(
+                9,
+                ONE,
+                &[("c", &[("v", "a"), ("w", "v")])],
+                &[("g", "b", 0)],
+            ),
+        ],
+    ),
+    (
+        Some(PlanFault::Place {
+            kind: Kind::Agent,
+            index: 1,
+        }),
+        &[
+            Sketch(9, ONE, &[], &[("g", "a", 0), ("h", "b", 0), ("i", "b", 0)]),
+            Sketch(9, ONE, &[("c", &[])], &[("g", "a", 0), ("h", "c", 0)]),
+        ],
+    ),
+];
+
+/// A name, the given one where the text is `?`.
+fn name_of(alloc: Global, text: &str, given: &str) -> Result<Name, Memory> {
+    if text == "?" {
+        Name::make(alloc, given)
+    } else {
+        Name::make(alloc, text)
+    }
+}
+
+fn clps(alloc: Global, given: &str, rows: &[(&str, &str)]) -> Result<List<ClpPart>, Memory> {
     let mut parts = List::new(alloc);
     for (name, parent) in rows {
-        if *name != "-" {
-            let parent = if parent.is_empty() {
-                None
-            } else {
-                Some(Name::make(alloc, parent)?)
-            };
-            let name = Name::make(alloc, name)?;
-            parts.push(ClpPart { name, parent })?;
-        }
+        let parent = if parent.is_empty() {
+            None
+        } else {
+            Some(Name::make(alloc, parent)?)
+        };
+        let name = name_of(alloc, name, given)?;
+        parts.push(ClpPart { name, parent })?;
     }
     Ok(parts)
+}
+
+fn vars(alloc: Global, given: &str, rows: &[(&str, &str)]) -> Result<List<VarPart>, Memory> {
+    let mut parts = List::new(alloc);
+    for (name, at) in rows {
+        let name = name_of(alloc, name, given)?;
+        let at = Name::make(alloc, at)?;
+        let value = Value { x: 0, y: 0 };
+        parts.push(VarPart { name, at, value })?;
+    }
+    Ok(parts)
+}
+
+/// The classes. More than ten thousand variables are refused, as a plan is made of few.
+fn classes(alloc: Global, given: &str, rows: Classes) -> Result<List<ClassPart>, Memory>
+    ensures { IfOk result (λ parts. length (all_vars parts) < 2 ^ 32) }
+{
+    let mut left = 10_000;
+    let mut parts = List::new(alloc);
+    for (name, members) in rows {
+        let name = name_of(alloc, name, given)?;
+        let vars = vars(alloc, given, members)?;
+        if vars.len() > left {
+            return Err(Memory);
+        }
+        left -= vars.len();
+        parts.push(ClassPart { name, vars })?;
+    }
+    Ok(parts)
+}
+
+/// An agent with an empty rule.
+#[tactic(auto, unfolding(pm_base::specs::Fits::fits, pm_base::specs::Fits::tree_fits))]
+fn agent(alloc: Global, name: Name, home: &str, start: u64) -> Result<AgentPart, Memory>
+    ensures { (layout : Layout) → IfOk result (λ part. fits part.program layout ≡ true) }
+{
+    let program = Program {
+        regs: List::new(alloc),
+        senses: List::new(alloc),
+        body: List::new(alloc),
+    };
+    Ok(AgentPart {
+        name,
+        home: Name::make(alloc, home)?,
+        start,
+        program,
+    })
+}
+
+fn agents(alloc: Global, given: &str, rows: Agents) -> Result<List<AgentPart>, Memory>
+    ensures { (classes : Seq TheClass) → IfOk result (λ parts. rules_fit classes parts ≡ true) }
+{
+    let mut parts = List::new(alloc);
+    for (name, home, start) in rows {
+        let name = name_of(alloc, name, given)?;
+        parts.push(agent(alloc, name, home, *start)?)?;
+    }
+    Ok(parts)
+}
+
+/// Why there is no plan of these parts.
+fn refusal(alloc: Global, given: &str, sketch: &Sketch) -> Result<Option<PlanFault>, Memory> {
+    let parts = PlanParts {
+        horizon: sketch.0,
+        move_after: 0,
+        clps: clps(alloc, given, sketch.1)?,
+        classes: classes(alloc, given, sketch.2)?,
+        agents: agents(alloc, given, sketch.3)?,
+    };
+    Ok(Plan::make(alloc, parts).err())
+}
+
+/// Whether each of the sketches gives that answer.
+fn all_give(
+    alloc: Global,
+    given: &str,
+    sketches: &[Sketch],
+    want: Option<PlanFault>,
+) -> Result<bool, Memory> {
+    for sketch in sketches {
+        if refusal(alloc, given, sketch)? != want {
+            return Ok(false);
+        }
+    }
+    Ok(true)
+}
+
+/// Whether each sketch gives the answer that stands with it.
+fn are_right(alloc: Global, given: &str, rows: Refusals) -> Result<bool, Memory> {
+    for (want, sketches) in rows {
+        if !all_give(alloc, given, sketches, *want)? {
+            return Ok(false);
+        }
+    }
+    Ok(true)
+}
+
+#[test]
+fn limits_are_refused_first(rt: HostRuntime) -> Result<(), Fail> {
+    assert!(rt; are_right(rt.alloc(), "", LIMITS)?);
+    Ok(())
+}
+
+#[test]
+fn names_are_refused_by_kind_and_index(rt: HostRuntime) -> Result<(), Fail> {
+    for name in WRONG {
+        assert!(rt; are_right(rt.alloc(), name, NAMES)?, "{name}");
+    }
+    assert!(rt; are_right(rt.alloc(), "", REPEATS)?);
+    Ok(())
+}
+
+#[test]
+fn trees_are_refused_before_places(rt: HostRuntime) -> Result<(), Fail> {
+    assert!(rt; are_right(rt.alloc(), "", TREES_AND_PLACES)?);
+    Ok(())
 }
 
 /// A chain of that many processes.
@@ -84,7 +438,7 @@ fn ways_lead_along_the_tree(rt: HostRuntime) -> Result<(), Fail> {
     );
     let star = tree(
         a,
-        clps(a, &[("b", "a"), ("a", ""), ("c", "a"), ("d", "a")])?,
+        clps(a, "", &[("b", "a"), ("a", ""), ("c", "a"), ("d", "a")])?,
     )?;
     assert!(rt;
         walks(
@@ -102,6 +456,7 @@ fn ways_lead_along_the_tree(rt: HostRuntime) -> Result<(), Fail> {
         a,
         clps(
             a,
+            "",
             &[
                 ("a", ""),
                 ("b", "a"),
