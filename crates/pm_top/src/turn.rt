@@ -148,7 +148,11 @@ fn change_all(values: &mut List<Value>, writes: &[Write])
 }
 
 /// The sequential turn. Nothing changes where all agents are retired, or at `Memory`.
-pub fn sequential_turn(alloc: Global, plan: &Plan, state: &mut State) -> Result<Option<Entry>, Memory>
+pub fn sequential_turn(
+    alloc: Global,
+    plan: &Plan,
+    state: &mut State,
+) -> Result<Option<Entry>, Memory>
     requires limits { IsWithinLimits plan.now }
     requires timely { IsTimely plan.now state.old }
     ensures moved { IfOk result (λ r. MatchOption r ((sequential_turn plan.now state.old ≡ None) × (state.new ≡ state.old)) (λ e. sequential_turn plan.now state.old ≡ Some (record { entry = e; state = state.new }))) }
