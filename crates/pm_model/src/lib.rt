@@ -42,17 +42,21 @@ pub fn small_traces()
 
 /// A run ends, since each turn lowers the work that is left; and what holds of each state of a run stays.
 pub fn a_turn_lowers_the_work()
-    ensures falls { (plan : Plan) (s : TheState) (m : Moved) → sequential_turn plan s ≡ Some m → IsTimely plan s → work plan m.state < work plan s }
-    ensures stays { (plan : Plan) (s : TheState) (m : Moved) → sequential_turn plan s ≡ Some m → IsTimely plan s → IsTimely plan m.state }
+    ensures falls { (plan : Plan) (s : TheState) (m : Moved) → sequential_turn plan s ≡ Some m →
+        IsTimely plan s → work plan m.state < work plan s }
+    ensures stays { (plan : Plan) (s : TheState) (m : Moved) → sequential_turn plan s ≡ Some m →
+        IsTimely plan s → IsTimely plan m.state }
 {}
 
 /// What is left of a run is the entry of the next turn and what is left after it.
 pub fn what_is_left()
-    ensures step { (plan : Plan) (s : TheState) (m : Moved) → sequential_turn plan s ≡ Some m → IsTimely plan s → rest plan s ≡ m.entry ∷ rest plan m.state }
+    ensures step { (plan : Plan) (s : TheState) (m : Moved) → sequential_turn plan s ≡ Some m →
+        IsTimely plan s → rest plan s ≡ m.entry ∷ rest plan m.state }
     ensures done { (plan : Plan) (s : TheState) → sequential_turn plan s ≡ None → rest plan s ≡ [] }
 {}
 
 /// There is no next turn only where all agents are retired.
 pub fn all_are_retired()
-    ensures { (plan : Plan) (s : TheState) → sequential_turn plan s ≡ None → IsTimely plan s → AllByRecursion IsRetired s.agents }
+    ensures { (plan : Plan) (s : TheState) → sequential_turn plan s ≡ None → IsTimely plan s →
+        AllByRecursion IsRetired s.agents }
 {}

@@ -56,7 +56,9 @@ fn error_line(ending: Ending) -> &'static str
 /// Offers the line of an ending, but of `Done` nothing. It takes no memory, and that the sink fails changes nothing.
 pub fn offer<E: Sink>(err: &mut E, ending: Ending)
     ensures silent { ending ≡ Ending.Done → err.new ≡ err.old }
-    ensures told { ending ≢ Ending.Done → Offers (E.holds err.old) (E.holds err.new) (Rose (E.faults err.old) (E.faults err.new) ⊎ Rose (E.stalls err.old) (E.stalls err.new)) (error_line ending) }
+    ensures told { ending ≢ Ending.Done →
+        Offers (E.holds err.old) (E.holds err.new) (Rose (E.faults err.old) (E.faults err.new)
+        ⊎ Rose (E.stalls err.old) (E.stalls err.new)) (error_line ending) }
 {
     if ending != Ending::Done {
         let _ = write_whole(err, error_line(ending).as_bytes());

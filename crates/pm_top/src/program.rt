@@ -48,11 +48,14 @@ fn ending_of(ran: Ran) -> Ending
 
 /// Writes the trace of a scenario's text.
 fn run_text<K: Sink>(alloc: Global, bytes: &[u8], out: &mut K) -> Ending
-    ensures done { result ≡ Ending.Done → PrintsTrace (Some bytes.now) (K.holds out.old) (K.holds out.new) }
+    ensures done { result ≡ Ending.Done →
+        PrintsTrace (Some bytes.now) (K.holds out.old) (K.holds out.new) }
     ensures part { PrintsPrefix (Some bytes.now) (K.holds out.old) (K.holds out.new) }
     ensures refused { result ≡ Ending.Refused → (plan_of bytes.now ≡ None) × (out.new ≡ out.old) }
-    ensures accepted { (result ≡ Ending.Done) ⊎ (result ≡ Ending.WriteFault) → (p : ThePlan) × (plan_of bytes.now ≡ Some p) }
-    ensures fault { result ≡ Ending.WriteFault → Rose (K.faults out.old) (K.faults out.new) ⊎ Rose (K.stalls out.old) (K.stalls out.new) }
+    ensures accepted { (result ≡ Ending.Done) ⊎ (result ≡ Ending.WriteFault) → (p : ThePlan)
+        × (plan_of bytes.now ≡ Some p) }
+    ensures fault { result ≡ Ending.WriteFault → Rose (K.faults out.old) (K.faults out.new)
+        ⊎ Rose (K.stalls out.old) (K.stalls out.new) }
     ensures ran { EndsRun result }
 {
     let plan = match read(alloc, bytes) {
@@ -65,15 +68,19 @@ fn run_text<K: Sink>(alloc: Global, bytes: &[u8], out: &mut K) -> Ending
 
 /// Mode `seq`.
 fn run_seq<S: Source, K: Sink>(alloc: Global, input: &mut S, out: &mut K) -> Ending
-    ensures done { result ≡ Ending.Done → PrintsTrace (S.held input.old) (K.holds out.old) (K.holds out.new) }
+    ensures done { result ≡ Ending.Done →
+        PrintsTrace (S.held input.old) (K.holds out.old) (K.holds out.new) }
     ensures part { PrintsPrefix (S.held input.old) (K.holds out.old) (K.holds out.new) }
     ensures nothing { WritesNothing result → out.new ≡ out.old }
     ensures refused { result ≡ Ending.Refused → IfSome (S.held input.old) IsRefused }
-    ensures too_long { result ≡ Ending.TooLong → IfSome (S.held input.old) IsTooLong × IsReadPast (S.held input.old) (S.held input.new) }
-    ensures accepted { (result ≡ Ending.Done) ⊎ (result ≡ Ending.WriteFault) → IfSome (S.held input.old) IsAccepted }
+    ensures too_long { result ≡ Ending.TooLong → IfSome (S.held input.old) IsTooLong
+        × IsReadPast (S.held input.old) (S.held input.new) }
+    ensures accepted { (result ≡ Ending.Done) ⊎ (result ≡ Ending.WriteFault) →
+        IfSome (S.held input.old) IsAccepted }
     ensures read { ReadsAll result → IsAtEnd (S.held input.new) }
     ensures read_fault { result ≡ Ending.ReadFault → Rose (S.faults input.old) (S.faults input.new) }
-    ensures write_fault { result ≡ Ending.WriteFault → Rose (K.faults out.old) (K.faults out.new) ⊎ Rose (K.stalls out.old) (K.stalls out.new) }
+    ensures write_fault { result ≡ Ending.WriteFault → Rose (K.faults out.old) (K.faults out.new)
+        ⊎ Rose (K.stalls out.old) (K.stalls out.new) }
     ensures words { result ≢ Ending.Words }
 {
     let bytes = match read_whole(alloc, input) {
@@ -105,22 +112,36 @@ fn serve<S: Source, K: Sink, E: Sink>(
     err: &mut E,
 ) -> Report
     ensures status { result.status ≡ status_of result.ending }
-    ensures done { result.ending ≡ Ending.Done → PrintsTrace (S.held input.old) (K.holds out.old) (K.holds out.new) }
+    ensures done { result.ending ≡ Ending.Done →
+        PrintsTrace (S.held input.old) (K.holds out.old) (K.holds out.new) }
     ensures part { PrintsPrefix (S.held input.old) (K.holds out.old) (K.holds out.new) }
     ensures nothing { WritesNothing result.ending → out.new ≡ out.old }
     ensures words { (result.ending ≡ Ending.Words) ↔ (is_seq words.now ≡ false) }
     ensures untouched { result.ending ≡ Ending.Words → input.new ≡ input.old }
     ensures refused { result.ending ≡ Ending.Refused → IfSome (S.held input.old) IsRefused }
-    ensures too_long { result.ending ≡ Ending.TooLong → IfSome (S.held input.old) IsTooLong × IsReadPast (S.held input.old) (S.held input.new) }
-    ensures accepted { (result.ending ≡ Ending.Done) ⊎ (result.ending ≡ Ending.WriteFault) → IfSome (S.held input.old) IsAccepted }
+    ensures too_long { result.ending ≡ Ending.TooLong → IfSome (S.held input.old) IsTooLong
+        × IsReadPast (S.held input.old) (S.held input.new) }
+    ensures accepted { (result.ending ≡ Ending.Done) ⊎ (result.ending ≡ Ending.WriteFault) →
+        IfSome (S.held input.old) IsAccepted }
     ensures read { ReadsAll result.ending → IsAtEnd (S.held input.new) }
-    ensures read_fault { result.ending ≡ Ending.ReadFault → Rose (S.faults input.old) (S.faults input.new) }
-    ensures write_fault { result.ending ≡ Ending.WriteFault → Rose (K.faults out.old) (K.faults out.new) ⊎ Rose (K.stalls out.old) (K.stalls out.new) }
+    ensures read_fault { result.ending ≡ Ending.ReadFault →
+        Rose (S.faults input.old) (S.faults input.new) }
+    ensures write_fault { result.ending ≡ Ending.WriteFault → Rose (K.faults out.old) (K.faults out.new)
+        ⊎ Rose (K.stalls out.old) (K.stalls out.new) }
     ensures silent { result.ending ≡ Ending.Done → err.new ≡ err.old }
-    ensures told { result.ending ≢ Ending.Done → Offers (E.holds err.old) (E.holds err.new) (Rose (E.faults err.old) (E.faults err.new) ⊎ Rose (E.stalls err.old) (E.stalls err.new)) (error_line result.ending) }
-    ensures refuses { is_seq words.now ≡ true → result.ending ≢ Ending.ReadFault → result.ending ≢ Ending.Memory → IfSome (S.held input.old) (λ b. IsRefused b → result.ending ≡ Ending.Refused) }
-    ensures limits { is_seq words.now ≡ true → result.ending ≢ Ending.ReadFault → result.ending ≢ Ending.Memory → IfSome (S.held input.old) (λ b. IsTooLong b → result.ending ≡ Ending.TooLong) }
-    ensures completes { is_seq words.now ≡ true → ¬ Rose (S.faults input.old) (S.faults input.new) → ¬ Rose (K.faults out.old) (K.faults out.new) → ¬ Rose (K.stalls out.old) (K.stalls out.new) → IfSome (S.held input.old) (λ b. IsAccepted b → (result.ending ≡ Ending.Done) ⊎ (result.ending ≡ Ending.Memory)) }
+    ensures told { result.ending ≢ Ending.Done →
+        Offers (E.holds err.old) (E.holds err.new) (Rose (E.faults err.old) (E.faults err.new)
+        ⊎ Rose (E.stalls err.old) (E.stalls err.new)) (error_line result.ending) }
+    ensures refuses { is_seq words.now ≡ true → result.ending ≢ Ending.ReadFault →
+        result.ending ≢ Ending.Memory → IfSome (S.held input.old) (λ b. IsRefused b →
+        result.ending ≡ Ending.Refused) }
+    ensures limits { is_seq words.now ≡ true → result.ending ≢ Ending.ReadFault →
+        result.ending ≢ Ending.Memory → IfSome (S.held input.old) (λ b. IsTooLong b →
+        result.ending ≡ Ending.TooLong) }
+    ensures completes { is_seq words.now ≡ true → ¬ Rose (S.faults input.old) (S.faults input.new) →
+        ¬ Rose (K.faults out.old) (K.faults out.new) → ¬ Rose (K.stalls out.old) (K.stalls out.new) →
+        IfSome (S.held input.old) (λ b. IsAccepted b → (result.ending ≡ Ending.Done)
+        ⊎ (result.ending ≡ Ending.Memory)) }
     ensures journal { result.journal ≡ [] }
 {
     if !is_seq(words) {
@@ -145,22 +166,36 @@ pub fn top<R: Threads + Sync, S: Source, K: Sink, E: Sink, G: Gate + Sync>(
     gate: &G,
 ) -> Report
     ensures status { result.status ≡ status_of result.ending }
-    ensures done { result.ending ≡ Ending.Done → PrintsTrace (S.held input.old) (K.holds out.old) (K.holds out.new) }
+    ensures done { result.ending ≡ Ending.Done →
+        PrintsTrace (S.held input.old) (K.holds out.old) (K.holds out.new) }
     ensures part { PrintsPrefix (S.held input.old) (K.holds out.old) (K.holds out.new) }
     ensures nothing { WritesNothing result.ending → out.new ≡ out.old }
     ensures words { (result.ending ≡ Ending.Words) ↔ (is_seq words.now.items ≡ false) }
     ensures untouched { result.ending ≡ Ending.Words → input.new ≡ input.old }
     ensures refused { result.ending ≡ Ending.Refused → IfSome (S.held input.old) IsRefused }
-    ensures too_long { result.ending ≡ Ending.TooLong → IfSome (S.held input.old) IsTooLong × IsReadPast (S.held input.old) (S.held input.new) }
-    ensures accepted { (result.ending ≡ Ending.Done) ⊎ (result.ending ≡ Ending.WriteFault) → IfSome (S.held input.old) IsAccepted }
+    ensures too_long { result.ending ≡ Ending.TooLong → IfSome (S.held input.old) IsTooLong
+        × IsReadPast (S.held input.old) (S.held input.new) }
+    ensures accepted { (result.ending ≡ Ending.Done) ⊎ (result.ending ≡ Ending.WriteFault) →
+        IfSome (S.held input.old) IsAccepted }
     ensures read { ReadsAll result.ending → IsAtEnd (S.held input.new) }
-    ensures read_fault { result.ending ≡ Ending.ReadFault → Rose (S.faults input.old) (S.faults input.new) }
-    ensures write_fault { result.ending ≡ Ending.WriteFault → Rose (K.faults out.old) (K.faults out.new) ⊎ Rose (K.stalls out.old) (K.stalls out.new) }
+    ensures read_fault { result.ending ≡ Ending.ReadFault →
+        Rose (S.faults input.old) (S.faults input.new) }
+    ensures write_fault { result.ending ≡ Ending.WriteFault → Rose (K.faults out.old) (K.faults out.new)
+        ⊎ Rose (K.stalls out.old) (K.stalls out.new) }
     ensures silent { result.ending ≡ Ending.Done → err.new ≡ err.old }
-    ensures told { result.ending ≢ Ending.Done → Offers (E.holds err.old) (E.holds err.new) (Rose (E.faults err.old) (E.faults err.new) ⊎ Rose (E.stalls err.old) (E.stalls err.new)) (error_line result.ending) }
-    ensures refuses { is_seq words.now.items ≡ true → result.ending ≢ Ending.ReadFault → result.ending ≢ Ending.Memory → IfSome (S.held input.old) (λ b. IsRefused b → result.ending ≡ Ending.Refused) }
-    ensures limits { is_seq words.now.items ≡ true → result.ending ≢ Ending.ReadFault → result.ending ≢ Ending.Memory → IfSome (S.held input.old) (λ b. IsTooLong b → result.ending ≡ Ending.TooLong) }
-    ensures completes { is_seq words.now.items ≡ true → ¬ Rose (S.faults input.old) (S.faults input.new) → ¬ Rose (K.faults out.old) (K.faults out.new) → ¬ Rose (K.stalls out.old) (K.stalls out.new) → IfSome (S.held input.old) (λ b. IsAccepted b → (result.ending ≡ Ending.Done) ⊎ (result.ending ≡ Ending.Memory)) }
+    ensures told { result.ending ≢ Ending.Done →
+        Offers (E.holds err.old) (E.holds err.new) (Rose (E.faults err.old) (E.faults err.new)
+        ⊎ Rose (E.stalls err.old) (E.stalls err.new)) (error_line result.ending) }
+    ensures refuses { is_seq words.now.items ≡ true → result.ending ≢ Ending.ReadFault →
+        result.ending ≢ Ending.Memory → IfSome (S.held input.old) (λ b. IsRefused b →
+        result.ending ≡ Ending.Refused) }
+    ensures limits { is_seq words.now.items ≡ true → result.ending ≢ Ending.ReadFault →
+        result.ending ≢ Ending.Memory → IfSome (S.held input.old) (λ b. IsTooLong b →
+        result.ending ≡ Ending.TooLong) }
+    ensures completes { is_seq words.now.items ≡ true → ¬ Rose (S.faults input.old) (S.faults input.new) →
+        ¬ Rose (K.faults out.old) (K.faults out.new) → ¬ Rose (K.stalls out.old) (K.stalls out.new) →
+        IfSome (S.held input.old) (λ b. IsAccepted b → (result.ending ≡ Ending.Done)
+        ⊎ (result.ending ≡ Ending.Memory)) }
     ensures journal { result.journal ≡ [] }
 {
     let _ = rt;
@@ -177,22 +212,36 @@ pub fn plain<S: Source, K: Sink, E: Sink>(
     err: &mut E,
 ) -> Report
     ensures status { result.status ≡ status_of result.ending }
-    ensures done { result.ending ≡ Ending.Done → PrintsTrace (S.held input.old) (K.holds out.old) (K.holds out.new) }
+    ensures done { result.ending ≡ Ending.Done →
+        PrintsTrace (S.held input.old) (K.holds out.old) (K.holds out.new) }
     ensures part { PrintsPrefix (S.held input.old) (K.holds out.old) (K.holds out.new) }
     ensures nothing { WritesNothing result.ending → out.new ≡ out.old }
     ensures words { (result.ending ≡ Ending.Words) ↔ (is_seq words.now.items ≡ false) }
     ensures untouched { result.ending ≡ Ending.Words → input.new ≡ input.old }
     ensures refused { result.ending ≡ Ending.Refused → IfSome (S.held input.old) IsRefused }
-    ensures too_long { result.ending ≡ Ending.TooLong → IfSome (S.held input.old) IsTooLong × IsReadPast (S.held input.old) (S.held input.new) }
-    ensures accepted { (result.ending ≡ Ending.Done) ⊎ (result.ending ≡ Ending.WriteFault) → IfSome (S.held input.old) IsAccepted }
+    ensures too_long { result.ending ≡ Ending.TooLong → IfSome (S.held input.old) IsTooLong
+        × IsReadPast (S.held input.old) (S.held input.new) }
+    ensures accepted { (result.ending ≡ Ending.Done) ⊎ (result.ending ≡ Ending.WriteFault) →
+        IfSome (S.held input.old) IsAccepted }
     ensures read { ReadsAll result.ending → IsAtEnd (S.held input.new) }
-    ensures read_fault { result.ending ≡ Ending.ReadFault → Rose (S.faults input.old) (S.faults input.new) }
-    ensures write_fault { result.ending ≡ Ending.WriteFault → Rose (K.faults out.old) (K.faults out.new) ⊎ Rose (K.stalls out.old) (K.stalls out.new) }
+    ensures read_fault { result.ending ≡ Ending.ReadFault →
+        Rose (S.faults input.old) (S.faults input.new) }
+    ensures write_fault { result.ending ≡ Ending.WriteFault → Rose (K.faults out.old) (K.faults out.new)
+        ⊎ Rose (K.stalls out.old) (K.stalls out.new) }
     ensures silent { result.ending ≡ Ending.Done → err.new ≡ err.old }
-    ensures told { result.ending ≢ Ending.Done → Offers (E.holds err.old) (E.holds err.new) (Rose (E.faults err.old) (E.faults err.new) ⊎ Rose (E.stalls err.old) (E.stalls err.new)) (error_line result.ending) }
-    ensures refuses { is_seq words.now.items ≡ true → result.ending ≢ Ending.ReadFault → result.ending ≢ Ending.Memory → IfSome (S.held input.old) (λ b. IsRefused b → result.ending ≡ Ending.Refused) }
-    ensures limits { is_seq words.now.items ≡ true → result.ending ≢ Ending.ReadFault → result.ending ≢ Ending.Memory → IfSome (S.held input.old) (λ b. IsTooLong b → result.ending ≡ Ending.TooLong) }
-    ensures completes { is_seq words.now.items ≡ true → ¬ Rose (S.faults input.old) (S.faults input.new) → ¬ Rose (K.faults out.old) (K.faults out.new) → ¬ Rose (K.stalls out.old) (K.stalls out.new) → IfSome (S.held input.old) (λ b. IsAccepted b → (result.ending ≡ Ending.Done) ⊎ (result.ending ≡ Ending.Memory)) }
+    ensures told { result.ending ≢ Ending.Done →
+        Offers (E.holds err.old) (E.holds err.new) (Rose (E.faults err.old) (E.faults err.new)
+        ⊎ Rose (E.stalls err.old) (E.stalls err.new)) (error_line result.ending) }
+    ensures refuses { is_seq words.now.items ≡ true → result.ending ≢ Ending.ReadFault →
+        result.ending ≢ Ending.Memory → IfSome (S.held input.old) (λ b. IsRefused b →
+        result.ending ≡ Ending.Refused) }
+    ensures limits { is_seq words.now.items ≡ true → result.ending ≢ Ending.ReadFault →
+        result.ending ≢ Ending.Memory → IfSome (S.held input.old) (λ b. IsTooLong b →
+        result.ending ≡ Ending.TooLong) }
+    ensures completes { is_seq words.now.items ≡ true → ¬ Rose (S.faults input.old) (S.faults input.new) →
+        ¬ Rose (K.faults out.old) (K.faults out.new) → ¬ Rose (K.stalls out.old) (K.stalls out.new) →
+        IfSome (S.held input.old) (λ b. IsAccepted b → (result.ending ≡ Ending.Done)
+        ⊎ (result.ending ≡ Ending.Memory)) }
     ensures journal { result.journal ≡ [] }
 {
     serve(alloc, words.as_slice(), input, out, err)

@@ -29,8 +29,10 @@ fn buffer_of(alloc: Global, len: usize) -> Result<Vec<u8>, AllocError>
 /// Reads the input to its end. It stops at the first piece that fails, and at the first past the limit.
 pub fn read_whole<S: Source>(alloc: Global, input: &mut S) -> Result<Vec<u8>, Unread>
     ensures whole { IfOk result (λ v. IsReadWhole (S.held input.old) (S.held input.new) v.items) }
-    ensures too_long { IfErr result (λ e. e ≡ Unread.TooLong → IsReadPast (S.held input.old) (S.held input.new)) }
-    ensures failed { IfErr result (λ e. e ≡ Unread.Failed → Rose (S.faults input.old) (S.faults input.new)) }
+    ensures too_long { IfErr result (λ e. e ≡ Unread.TooLong →
+        IsReadPast (S.held input.old) (S.held input.new)) }
+    ensures failed { IfErr result (λ e. e ≡ Unread.Failed →
+        Rose (S.faults input.old) (S.faults input.new)) }
     ensures faults { S.faults input.old ≤ S.faults input.new }
 {
     let mut buffer = match buffer_of(alloc, PIECE) {
@@ -55,12 +57,15 @@ fn take_piece<S: Source>(
     bytes: &mut Vec<u8>,
 ) -> Result<bool, Unread>
     requires { length buffer.old ≡ 65536 }
-    ensures piece { OnOk result ((xs : List ℕ) × (length xs ≤ 65536) × (bytes.new.items ≡ bytes.old.items ++ xs) × Consumes (S.held input.old) (S.held input.new) xs) }
+    ensures piece { OnOk result ((xs : List ℕ) × (length xs ≤ 65536)
+        × (bytes.new.items ≡ bytes.old.items ++ xs)
+        × Consumes (S.held input.old) (S.held input.new) xs) }
     ensures end { result ≡ Ok false → (bytes.new.items ≡ bytes.old.items) × IsAtEnd (S.held input.new) }
     ensures more { result ≡ Ok true → vec_len bytes.old < vec_len bytes.new }
     ensures few { OnOk result (vec_len bytes.new ≤ vec_len bytes.old + 65536) }
     ensures faults { S.faults input.old ≤ S.faults input.new }
-    ensures failed { IfErr result (λ e. e ≡ Unread.Failed → Rose (S.faults input.old) (S.faults input.new)) }
+    ensures failed { IfErr result (λ e. e ≡ Unread.Failed →
+        Rose (S.faults input.old) (S.faults input.new)) }
     ensures fits { IfErr result (λ e. e ≡ Unread.TooLong → false ≡ true) }
 {
     let count = match input.take(buffer) {

@@ -33,11 +33,16 @@ pub enum Ran {
 fn write_turn<K: Sink>(alloc: Global, plan: &Plan, state: &mut State, out: &mut K) -> Turned
     requires limits { IsWithinLimits plan.now }
     requires timely { IsTimely plan.now state.old }
-    ensures wrote { result ≡ Turned.Wrote → (m : Moved) × (sequential_turn plan.now state.old ≡ Some m) × (m.state ≡ state.new) × Appends (K.holds out.old) (K.holds out.new) (line plan.now m.entry) }
-    ensures end { result ≡ Turned.End → (sequential_turn plan.now state.old ≡ None) × (state.new ≡ state.old) × (out.new ≡ out.old) }
-    ensures fault { result ≡ Turned.WriteFault → (m : Moved) × (sequential_turn plan.now state.old ≡ Some m) × AppendsPart (K.holds out.old) (K.holds out.new) (line plan.now m.entry) }
+    ensures wrote { result ≡ Turned.Wrote → (m : Moved) × (sequential_turn plan.now state.old ≡ Some m)
+        × (m.state ≡ state.new) × Appends (K.holds out.old) (K.holds out.new) (line plan.now m.entry) }
+    ensures end { result ≡ Turned.End → (sequential_turn plan.now state.old ≡ None)
+        × (state.new ≡ state.old) × (out.new ≡ out.old) }
+    ensures fault { result ≡ Turned.WriteFault → (m : Moved)
+        × (sequential_turn plan.now state.old ≡ Some m)
+        × AppendsPart (K.holds out.old) (K.holds out.new) (line plan.now m.entry) }
     ensures memory { result ≡ Turned.Memory → out.new ≡ out.old }
-    ensures cause { result ≡ Turned.WriteFault → Rose (K.faults out.old) (K.faults out.new) ⊎ Rose (K.stalls out.old) (K.stalls out.new) }
+    ensures cause { result ≡ Turned.WriteFault → Rose (K.faults out.old) (K.faults out.new)
+        ⊎ Rose (K.stalls out.old) (K.stalls out.new) }
     ensures faults { K.faults out.old ≤ K.faults out.new }
     ensures stalls { K.stalls out.old ≤ K.stalls out.new }
 {
@@ -62,7 +67,8 @@ pub fn write_run<K: Sink>(alloc: Global, plan: &Plan, out: &mut K) -> Ran
     requires { IsWithinLimits plan.now }
     ensures done { result ≡ Ran.Done → Appends (K.holds out.old) (K.holds out.new) (trace plan.now) }
     ensures part { AppendsPrefix (K.holds out.old) (K.holds out.new) (trace plan.now) }
-    ensures cause { result ≡ Ran.WriteFault → Rose (K.faults out.old) (K.faults out.new) ⊎ Rose (K.stalls out.old) (K.stalls out.new) }
+    ensures cause { result ≡ Ran.WriteFault → Rose (K.faults out.old) (K.faults out.new)
+        ⊎ Rose (K.stalls out.old) (K.stalls out.new) }
     ensures faults { K.faults out.old ≤ K.faults out.new }
     ensures stalls { K.stalls out.old ≤ K.stalls out.new }
 {
@@ -85,7 +91,8 @@ pub fn write_run<K: Sink>(alloc: Global, plan: &Plan, out: &mut K) -> Ran
 fn write_end<K: Sink>(alloc: Global, steps: u64, out: &mut K) -> Ran
     ensures done { result ≡ Ran.Done → Appends (K.holds out.old) (K.holds out.new) (end_line steps) }
     ensures part { AppendsPrefix (K.holds out.old) (K.holds out.new) (end_line steps) }
-    ensures cause { result ≡ Ran.WriteFault → Rose (K.faults out.old) (K.faults out.new) ⊎ Rose (K.stalls out.old) (K.stalls out.new) }
+    ensures cause { result ≡ Ran.WriteFault → Rose (K.faults out.old) (K.faults out.new)
+        ⊎ Rose (K.stalls out.old) (K.stalls out.new) }
     ensures faults { K.faults out.old ≤ K.faults out.new }
     ensures stalls { K.stalls out.old ≤ K.stalls out.new }
 {

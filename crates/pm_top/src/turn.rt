@@ -117,7 +117,13 @@ fn deed(
 ) -> Result<Deed, Memory>
     requires limits { IsWithinLimits plan.now }
     requires time { stamp.time < 2 ^ 63 }
-    ensures { IfOk result (λ d. deed (record { program = row.now.program; classes = plan.now.layout.classes; values = values.now; stamp = stamp; regs = regs.now }) ≡ Some d) }
+    ensures { IfOk result (λ d. deed (record {
+      program = row.now.program;
+      classes = plan.now.layout.classes;
+      values = values.now;
+      stamp = stamp;
+      regs = regs.now;
+    }) ≡ Some d) }
 {
     let mut answers = List::new(alloc);
     'asking: loop {
@@ -155,7 +161,9 @@ pub fn sequential_turn(
 ) -> Result<Option<Entry>, Memory>
     requires limits { IsWithinLimits plan.now }
     requires timely { IsTimely plan.now state.old }
-    ensures moved { IfOk result (λ r. MatchOption r ((sequential_turn plan.now state.old ≡ None) × (state.new ≡ state.old)) (λ e. sequential_turn plan.now state.old ≡ Some (record { entry = e; state = state.new }))) }
+    ensures moved { IfOk result (λ r. MatchOption r
+        ((sequential_turn plan.now state.old ≡ None) × (state.new ≡ state.old))
+        (λ e. sequential_turn plan.now state.old ≡ Some (record { entry = e; state = state.new }))) }
     ensures kept { OnErr result (state.new ≡ state.old) }
 {
     let Some(stamp) = least_stamp(state.agents.as_slice()) else {
