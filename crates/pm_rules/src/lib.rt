@@ -1,6 +1,14 @@
 //! The rule language: a rule's text to its tree, and back.
 #![tactic(auto)]
 
+mod draft;
 mod fault;
+mod laws;
+mod lexing;
+mod lines;
+mod said;
+mod stop;
+mod token;
 
 pub use fault::RuleFault;
+pub use laws::some_texts;

@@ -1,0 +1,91 @@
+-- The texts of the grammar: what must stand on their lines for a program.
+use Rattle.std.specs.Prelude.{◌≡◌, ℕ, ◌+◌, ◌≤◌, ◌<◌, Bool, true, false, List, [], ◌∷◌, length, map, get_or, Option, Some, None, option_map}
+use Rattle.std.specs.List.{AllByRecursion}
+use Rattle.pm_base.specs.Fits.{fits}
+use Rattle.pm_base.specs.Layouts.{var_count}
+use Rattle.pm_base.specs.declared.program.Program.{Program}
+use Rattle.pm_base.specs.declared.program.Stmt.{Stmt}
+use Rattle.pm_base.specs.declared.program.Stmt.TheFolds.{fold-Stmt}
+use Rattle.pm_base.specs.declared.program.Stmt.TheOpen.{Stmt-F}
+use Rattle.pm_rules.specs.Lexing.{lex}
+use Rattle.pm_rules.specs.Lines.{lines_of, code}
+use Rattle.pm_rules.specs.Reading.{Table, class_names, class_rows, number_of}
+use Rattle.pm_rules.specs.Spelling.{program_says, program_scope, spell_said}
+use Rattle.pm_rules.specs.Tokens.{Tok}
+use Rattle.pm_rules.specs.declared.said.Said.{Said}
+use Rattle.pm_rules.specs.declared.said.Said.TheVariants as said
+
+-- the lines of a text that aren't skipped, each with its number and its tokens; none where some characters are no token
+pub record Row : Type 0 where
+  pub number : ℕ
+  pub tokens : List Tok
+
+abbrev pub with_row : ℕ → List Tok → Option (List Row) → Option (List Row)
+with_row n [] rows = rows
+with_row n (k ∷ ks) rows = option_map (λ (rs : List Row). record { number = n; tokens = k ∷ ks } ∷ rs) rows
+
+abbrev pub or_none : ℕ → Option (List Tok) → Option (List Row) → Option (List Row)
+or_none n None rows = None
+or_none n (Some ks) rows = with_row n ks rows
+
+abbrev pub rows_from : ℕ → List (List ℕ) → Option (List Row)
+rows_from n [] = Some []
+rows_from n (l ∷ ls) = or_none n (lex (code l)) (rows_from (n + 1) ls)
+
+-- a line within the limits of number and length
+pub record IsShort (row : Row) : Type 0 where
+  pub number : row.number ≤ 200
+  pub tokens : length row.tokens ≤ 64
+
+-- an `else` of an empty second list may stand or be left out: without those that stand right before their `end`
+abbrev pub drops_else : Said → List Said → List Said
+drops_else said.Else (said.End ∷ ss) = said.End ∷ ss
+drops_else s ss = s ∷ ss
+
+abbrev pub without_idle_else : List Said → List Said
+without_idle_else [] = []
+without_idle_else (s ∷ ss) = drops_else s (without_idle_else ss)
+
+-- a statement without `add`, which version 1 has not
+abbrev pub all_plain : List Bool → Bool
+all_plain [] = true
+all_plain (b ∷ bs) = if_both b (all_plain bs)
+  where
+    if_both : Bool → Bool → Bool
+    if_both true c = c
+    if_both false c = false
+
+abbrev pub plain_step : Stmt-F Bool → Bool
+plain_step (Stmt-F.Let reg e) = true
+plain_step (Stmt-F.If test first second) = all_plain (all_plain first ∷ all_plain second ∷ [])
+plain_step (Stmt-F.Set place x y) = true
+plain_step (Stmt-F.Add place x y) = false
+plain_step (Stmt-F.Wait e) = true
+
+abbrev pub is_plain : Stmt → Bool
+is_plain = fold-Stmt Bool plain_step
+
+-- the statements of that version
+abbrev pub IsOfVersion : ℕ → Program → Type 0
+IsOfVersion version p = version ≡ 1 → all_plain (map is_plain p.body) ≡ true
+
+-- the text says what the program's lines say, each line spelled in the grammar's order, within the limits
+pub record IsRule (t : Table) (version : ℕ) (text : List ℕ) (p : Program) : Type 0 where
+  pub rows : List Row
+  pub said : List Said
+  pub lexed : rows_from 1 (lines_of text) ≡ Some rows
+  pub spelled : map (λ (r : Row). r.tokens) rows ≡ map (spell_said (program_scope t p)) said
+  pub says : without_idle_else said ≡ program_says p
+  pub short : AllByRecursion IsShort rows
+  pub fits : fits p (record { classes = class_rows t }) ≡ true
+  pub of_version : IsOfVersion version p
+
+-- each name stands for its own number
+abbrev pub AreDistinct : List (List ℕ) → Type 0
+AreDistinct names = (k : ℕ) → k < length names → number_of names (get_or names k []) ≡ Some k
+
+-- a scenario's names: distinct within their kind, and as many variables as the classes have
+pub record IsTable (t : Table) : Type 0 where
+  pub classes : AreDistinct (class_names t)
+  pub vars : AreDistinct t.vars
+  pub count : length t.vars ≡ var_count (class_rows t)

@@ -1,0 +1,10 @@
+pub mod Answers
+pub mod Tokens
+pub mod Lexing
+pub mod Lines
+pub mod Reading
+pub mod Statements
+pub mod Rules
+pub mod Spelling
+pub mod Grammar
+pub mod Samples
