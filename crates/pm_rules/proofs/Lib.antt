@@ -1,3 +1,4 @@
 pub mod LexingLaws
 pub mod LinesLaws
 pub mod NamesLaws
+pub mod NestingLaws

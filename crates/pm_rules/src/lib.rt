@@ -3,6 +3,7 @@
 
 mod draft;
 mod fault;
+mod grammar_laws;
 mod laws;
 mod lexing;
 mod lines;
@@ -11,4 +12,5 @@ mod stop;
 mod token;
 
 pub use fault::RuleFault;
+pub use grammar_laws::lines_lead_to_their_program;
 pub use laws::some_texts;
