@@ -2,3 +2,5 @@ pub mod LexingLaws
 pub mod LinesLaws
 pub mod NamesLaws
 pub mod NestingLaws
+pub mod BackwardLaws
+pub mod IdleLaws

@@ -1,15 +1,49 @@
 -- What lines say, one after another.
-use Rattle.std.specs.Prelude.{List, [], ◌∷◌}
+use Rattle.std.specs.Prelude.{◌≡◌, Bool, true, false, not, ◌&&◌, ◌||◌, List, [], ◌∷◌, ◌++◌, Option, Some, None, is_some}
 use Rattle.pm_base.specs.declared.program.Program.{Program}
-use Rattle.pm_rules.specs.Rules.{with_said}
+use Rattle.pm_base.specs.declared.program.Stmt.{Stmt}
+use Rattle.pm_rules.specs.Rules.{is_one_too_many, is_out_of_order, is_twice, is_unmatched, with_said}
+use Rattle.pm_rules.specs.Spelling.{reg_said, says_all, sense_said}
 use Rattle.pm_rules.specs.declared.draft.Draft.{Draft}
+use Rattle.pm_rules.specs.declared.draft.Frame.{Frame}
 use Rattle.pm_rules.specs.declared.said.Said.{Said}
+use Rattle.pm_rules.specs.declared.said.Said.TheVariants as said
 
 -- the draft after these lines
 abbrev pub all_said : List Said → Draft → Draft
 all_said [] d = d
 all_said (s ∷ ss) d = all_said ss (with_said s d)
 
+-- a line has none of the faults of order, nesting, number and names declared twice
+abbrev pub is_taken : Draft → Said → Bool
+is_taken d s = not (is_out_of_order d s) && (not (is_unmatched d s) && (not (is_one_too_many d s) && not (is_twice d s)))
+
+abbrev pub are_taken : Draft → List Said → Bool
+are_taken d [] = true
+are_taken d (s ∷ ss) = is_taken d s && are_taken (with_said s d) ss
+
 -- the draft of a whole program
 abbrev pub draft_of : Program → Draft
 draft_of p = record { regs = p.regs; senses = p.senses; frames = []; body = p.body }
+
+-- what the lines of a draft say, without the needless `else` of a closed `if`
+abbrev pub first_said : Option (List Stmt) → List Said
+first_said None = []
+first_said (Some first) = says_all first ++ said.Else ∷ []
+
+abbrev pub frames_said : List Frame → List Said
+frames_said [] = []
+frames_said (f ∷ fs) = says_all f.outer ++ (said.If f.test ∷ (first_said f.first ++ frames_said fs))
+
+abbrev pub draft_says : Draft → List Said
+draft_says d = reg_said d.regs ++ (sense_said d.senses ++ (frames_said d.frames ++ says_all d.body))
+
+-- for each open `if`, the innermost first, whether its `else` came
+abbrev pub opens : List Frame → List Bool
+opens [] = []
+opens (f ∷ fs) = opens fs ++ is_some f.first ∷ []
+
+-- a statement of one line
+abbrev pub IsOneLine : Said → Type 0
+IsOneLine (said.Does s) = says_all (s ∷ []) ≡ said.Does s ∷ []
+IsOneLine _ = Unit {0}
