@@ -23,7 +23,7 @@ not_begun d e =
     let parts = both (is_empty d.frames) (is_empty d.body) (turned_false _ e) in
     (nothing_in d.frames parts.0, nothing_in d.body parts.1)
 
-some_frame : (gs : List Frame) → is_empty gs ≡ false → (fs : List Frame) × (f : Frame) × (last_frame gs ≡ Some (fs, f))
+pub some_frame : (gs : List Frame) → is_empty gs ≡ false → (fs : List Frame) × (f : Frame) × (last_frame gs ≡ Some (fs, f))
 some_frame [] e = cc
 some_frame (g ∷ gs) e = (_, _, refl)
 

@@ -4,3 +4,5 @@ pub mod NamesLaws
 pub mod NestingLaws
 pub mod BackwardLaws
 pub mod IdleLaws
+pub mod CanonicalLaws
+pub mod MatchedLaws
