@@ -7,4 +7,5 @@ pub mod Statements
 pub mod Rules
 pub mod Spelling
 pub mod Grammar
+pub mod Sayable
 pub mod Samples

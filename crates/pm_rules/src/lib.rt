@@ -7,8 +7,10 @@ mod laws;
 mod lexing;
 mod lines;
 mod said;
+mod spelling_laws;
 mod stop;
 mod token;
 
 pub use fault::RuleFault;
 pub use laws::some_texts;
+pub use spelling_laws::spelled_tokens_are_counted;
