@@ -4,3 +4,5 @@ pub mod NamesLaws
 pub mod Variants
 pub mod SpellingEquations
 pub mod SpellingCounts
+pub mod ScopeLaws
+pub mod KnownParts

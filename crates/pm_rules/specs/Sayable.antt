@@ -1,5 +1,5 @@
 -- What a line may say in a scope: the names that it uses are there, and the one that it declares may be declared.
-use Rattle.std.specs.Prelude.{◌≡◌, ℕ, ◌==◌, ◌<◌, Bool, true, false, ◌&&◌, nat_lt, [], get_or, length}
+use Rattle.std.specs.Prelude.{◌≡◌, ℕ, ◌==◌, ◌<◌, Bool, true, false, ◌&&◌, nat_lt, List, [], ◌++◌, get_or, length}
 use Rattle.pm_base.specs.Fits.{change_known, is_known, sense_known}
 use Rattle.pm_base.specs.declared.fits.Known.{Known}
 use Rattle.pm_base.specs.declared.program.Stmt.{Stmt}
@@ -45,3 +45,7 @@ pub record IsScope (sc : Scope) : Type 0 where
   pub senses : AreDistinct sc.senses
   pub free_regs : (r : ℕ) → r < length sc.regs → is_free (get_or sc.regs r []) ≡ true
   pub free_senses : (k : ℕ) → k < length sc.senses → is_free (get_or sc.senses k []) ≡ true
+
+-- a scope with more registers and senses behind those that it has
+abbrev pub extended : Scope → List (List ℕ) → List (List ℕ) → Scope
+extended sc regs senses = record { table = sc.table; regs = sc.regs ++ regs; senses = sc.senses ++ senses }
