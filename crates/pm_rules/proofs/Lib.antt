@@ -6,3 +6,5 @@ pub mod SpellingEquations
 pub mod SpellingCounts
 pub mod ScopeLaws
 pub mod KnownParts
+pub mod ReadAgain
+pub mod LinesReadAgain
