@@ -6,3 +6,10 @@ pub mod BackwardLaws
 pub mod IdleLaws
 pub mod CanonicalLaws
 pub mod MatchedLaws
+pub mod Variants
+pub mod SpellingEquations
+pub mod SpellingCounts
+pub mod ScopeLaws
+pub mod KnownParts
+pub mod ReadAgain
+pub mod LinesReadAgain

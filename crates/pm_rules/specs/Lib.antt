@@ -8,4 +8,5 @@ pub mod Rules
 pub mod Spelling
 pub mod Grammar
 pub mod Nesting
+pub mod Sayable
 pub mod Samples
