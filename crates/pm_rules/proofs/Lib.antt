@@ -13,3 +13,4 @@ pub mod ScopeLaws
 pub mod KnownParts
 pub mod ReadAgain
 pub mod LinesReadAgain
+pub mod RowLaws

@@ -1,8 +1,12 @@
 -- What lines say, one after another.
-use Rattle.std.specs.Prelude.{◌≡◌, Bool, true, false, not, ◌&&◌, ◌||◌, List, [], ◌∷◌, ◌++◌, Option, Some, None, is_some}
+use Rattle.std.specs.Prelude.{◌≡◌, ℕ, Bool, true, false, not, ◌&&◌, ◌||◌, List, [], ◌∷◌, ◌++◌, Option, Some, None, is_some, Result, Ok}
 use Rattle.pm_base.specs.declared.program.Program.{Program}
 use Rattle.pm_base.specs.declared.program.Stmt.{Stmt}
-use Rattle.pm_rules.specs.Rules.{is_one_too_many, is_out_of_order, is_twice, is_unmatched, with_said}
+use Rattle.pm_rules.specs.Grammar.{Row}
+use Rattle.pm_rules.specs.Reading.{Table}
+use Rattle.pm_rules.specs.Statements.{statement}
+use Rattle.pm_rules.specs.declared.fault.RuleFault.{RuleFault}
+use Rattle.pm_rules.specs.Rules.{after_read, go_on, scope_of, is_one_too_many, is_out_of_order, is_twice, is_unmatched, with_said}
 use Rattle.pm_rules.specs.Spelling.{reg_said, says_all, sense_said}
 use Rattle.pm_rules.specs.declared.draft.Draft.{Draft}
 use Rattle.pm_rules.specs.declared.draft.Frame.{Frame}
@@ -47,3 +51,17 @@ opens (f ∷ fs) = opens fs ++ is_some f.first ∷ []
 abbrev pub IsOneLine : Said → Type 0
 IsOneLine (said.Does s) = says_all (s ∷ []) ≡ said.Does s ∷ []
 IsOneLine _ = Unit {0}
+
+-- what the rows of a text say, one after another
+abbrev pub after_rows : Table → ℕ → List Row → Draft → Result Draft RuleFault
+after_rows t version [] d = Ok d
+after_rows t version (r ∷ rs) d =
+    go_on (after_rows t version rs) (after_read r.number (statement (scope_of t d) version r.tokens) d)
+
+-- each row is read as its line, with all names there, in the scope of the lines before it
+abbrev pub AreRead : Table → ℕ → Draft → List Row → List Said → Type 0
+AreRead t version d [] [] = Unit {0}
+AreRead t version d (r ∷ rs) (s ∷ ss) =
+    (statement (scope_of t d) version r.tokens ≡ Some (s, true)) × AreRead t version (with_said s d) rs ss
+AreRead t version d [] (s ∷ ss) = ⊥
+AreRead t version d (r ∷ rs) [] = ⊥
