@@ -8,3 +8,5 @@ pub mod ScopeLaws
 pub mod KnownParts
 pub mod ReadAgain
 pub mod LinesReadAgain
+pub mod Found
+pub mod WasSpelled

@@ -30,3 +30,9 @@ pub fn spelled_is_read()
     ensures places { (sc : Scope) → IsScope sc → (p : Place) (rest : List Tok) → place_known (class_rows sc.table) (known_in sc) p ≡ true → place_tokens p ≤ 64 → after is_left rest ≡ None → place sc (spell_place sc p ++ rest) ≡ Some ((p, true), rest) }
     ensures lines { (sc : Scope) (version : ℕ) → IsScope sc → (s : Said) → is_sayable sc version s ≡ true → length (spell_said sc s) ≤ 64 → statement sc version (spell_said sc s) ≡ Some (s, true) }
 {}
+
+/// What is read was spelled, and all that it uses is there.
+pub fn read_was_spelled()
+    ensures expressions { (sc : Scope) (n : ℕ) (ts : List Tok) (e : Expr) (rest : List Tok) → expression sc n ts ≡ Some ((e, true), rest) → (ts ≡ spell sc e ++ rest) × (is_known (known_in sc) e ≡ true) }
+    ensures places { (sc : Scope) (ts : List Tok) (p : Place) (rest : List Tok) → place sc ts ≡ Some ((p, true), rest) → (ts ≡ spell_place sc p ++ rest) × (place_known (class_rows sc.table) (known_in sc) p ≡ true) }
+{}
