@@ -10,3 +10,4 @@ pub mod ReadAgain
 pub mod LinesReadAgain
 pub mod Found
 pub mod WasSpelled
+pub mod LinesWereSpelled

@@ -35,4 +35,5 @@ pub fn spelled_is_read()
 pub fn read_was_spelled()
     ensures expressions { (sc : Scope) (n : ℕ) (ts : List Tok) (e : Expr) (rest : List Tok) → expression sc n ts ≡ Some ((e, true), rest) → (ts ≡ spell sc e ++ rest) × (is_known (known_in sc) e ≡ true) }
     ensures places { (sc : Scope) (ts : List Tok) (p : Place) (rest : List Tok) → place sc ts ≡ Some ((p, true), rest) → (ts ≡ spell_place sc p ++ rest) × (place_known (class_rows sc.table) (known_in sc) p ≡ true) }
+    ensures lines { (sc : Scope) (version : ℕ) (ts : List Tok) (s : Said) → statement sc version ts ≡ Some (s, true) → (ts ≡ spell_said sc s) × (is_sayable sc version s ≡ true) }
 {}
