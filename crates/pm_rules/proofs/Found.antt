@@ -75,9 +75,6 @@ only_assign : (t : Symbol) → is_assign t ≡ true → t ≡ symbols.Assign
 only_assign symbols.Assign e = refl
 only_assign t e = cc
 
-
-
-
 pub close_found : (ts rest : List Tok) → after is_close ts ≡ Some rest → ts ≡ symbol symbols.Close ∷ rest
 close_found = after_found is_close symbols.Close only_close
 
@@ -228,6 +225,8 @@ assigned_found ts r e =
     let w = bind_ok (declared ts) _ r e in
     let rest = bind_ok (after is_assign w.0.1) _ r w.2 in
     let is : (w.0.0, rest.0) ≡ r = same_Some _ _ rest.2 in
-    let head = declared_found ts w.0 w.1 in
-    (head.0 ∙ ap (λ (t : List Tok). name w.0.0 ∷ t) (assign_found w.0.1 rest.0 rest.1)
-    ∙ ap (λ (r : List ℕ × List Tok). name r.0 ∷ symbol symbols.Assign ∷ r.1) is, sym (ap (λ (r : List ℕ × List Tok). is_free r.0) is) ∙ head.1)
+    let head = declared_found ts w.0 w.1 in (
+      head.0 ∙ ap (λ (t : List Tok). name w.0.0 ∷ t) (assign_found w.0.1 rest.0 rest.1)
+          ∙ ap (λ (r : List ℕ × List Tok). name r.0 ∷ symbol symbols.Assign ∷ r.1) is,
+      sym (ap (λ (r : List ℕ × List Tok). is_free r.0) is) ∙ head.1,
+    )

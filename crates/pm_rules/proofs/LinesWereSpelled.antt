@@ -44,10 +44,12 @@ reg_found sc version ts r e =
     let z = bind_ok (number_at w.0.1) _ r w.2 in
     let end = whole_found (said.Reg w.0.0 z.0.0, true) z.0.1 r z.2 in
     let head = declared_found ts w.0 w.1 in
-    at_line sc version (name (codes "reg") ∷ ts) _ r end.1 (λ there.
-    (ap (λ (t : List Tok). name (codes "reg") ∷ t) (head.0
-    ∙ ap (λ (t : List Tok). name w.0.0 ∷ t) (number_found w.0.1 z.0 z.1
-    ∙ ap (λ (t : List Tok). number z.0.0 ∷ t) end.0)), head.1))
+    at_line sc version (name (codes "reg") ∷ ts) _ r end.1 (λ there. (
+      ap (λ (t : List Tok). name (codes "reg") ∷ t) (head.0
+          ∙ ap (λ (t : List Tok). name w.0.0 ∷ t) (number_found w.0.1 z.0 z.1
+          ∙ ap (λ (t : List Tok). number z.0.0 ∷ t) end.0)),
+      head.1,
+    ))
 
 read_spelled : (sc : Scope) (version : ℕ) (w : List ℕ) (p : Place) (ts inner rest : List Tok) → ts ≡ name w ∷ symbol symbols.Assign ∷ inner → is_free w ≡ true →
     PlaceWasSpelled sc inner p rest → rest ≡ [] → LineWasSpelled sc version (name (codes "read") ∷ ts) (said.Sense w (sense.Read p))
@@ -212,9 +214,10 @@ unfolding add_line
 add_found sc version ts r two e =
     let c = bind_ok (change sc ts) _ r e in
     at_line sc version (name (codes "add") ∷ ts) _ r (same_Some _ _ c.2) (λ there.
-    let spelled = change_found sc ts c.0 c.1 there in
-    (spelled.tokens (codes "add") ∙ sym (does-Add sc c.0.0.0 c.0.0.1.0 c.0.0.1.1),
-    sayable-Add sc version c.0.0.0 c.0.0.1.0 c.0.0.1.1 ∙ rw (two, spelled.known) refl))
+    let spelled = change_found sc ts c.0 c.1 there in (
+      spelled.tokens (codes "add") ∙ sym (does-Add sc c.0.0.0 c.0.0.1.0 c.0.0.1.1),
+      sayable-Add sc version c.0.0.0 c.0.0.1.0 c.0.0.1.1 ∙ rw (two, spelled.known) refl,
+    ))
 
 abbrev IsOnlyFound : Scope → List Tok → Expr × Bool → Type 0
 IsOnlyFound sc ts r = r.1 ≡ true → (ts ≡ spell sc r.0) × (is_known (known_in sc) r.0 ≡ true)
