@@ -1,7 +1,7 @@
 -- The texts of the grammar: what must stand on their lines for a program.
-use Rattle.std.specs.Prelude.{◌≡◌, ℕ, ◌+◌, ◌≤◌, ◌<◌, Bool, true, false, List, [], ◌∷◌, length, map, get_or, Option, Some, None, option_map}
+use Rattle.std.specs.Prelude.{◌≡◌, ◌&&◌, ℕ, ◌+◌, ◌≤◌, ◌<◌, Bool, true, false, List, [], ◌∷◌, length, map, get_or, Option, Some, None, option_map}
 use Rattle.std.specs.List.{AllByRecursion}
-use Rattle.pm_base.specs.Fits.{fits}
+use Rattle.pm_base.specs.Fits.{all_true, fits}
 use Rattle.pm_base.specs.Layouts.{var_count}
 use Rattle.pm_base.specs.declared.program.Program.{Program}
 use Rattle.pm_base.specs.declared.program.Stmt.{Stmt}
@@ -37,6 +37,24 @@ pub record IsShort (row : Row) : Type 0 where
   pub number : row.number ≤ 200
   pub tokens : length row.tokens ≤ 64
 
+-- each `else` and `end` has an open `if`, an `if` has at most one `else`, and none is open at the end; for each open `if`,
+-- the innermost first, whether its `else` came
+abbrev pub ends : List Bool → Bool
+ends [] = true
+ends (o ∷ os) = false
+
+abbrev pub is_matched : List Bool → List Said → Bool
+is_matched opens [] = ends opens
+is_matched opens (said.If test ∷ ss) = is_matched (false ∷ opens) ss
+is_matched (false ∷ opens) (said.Else ∷ ss) = is_matched (true ∷ opens) ss
+is_matched (true ∷ opens) (said.Else ∷ ss) = false
+is_matched [] (said.Else ∷ ss) = false
+is_matched (o ∷ opens) (said.End ∷ ss) = is_matched opens ss
+is_matched [] (said.End ∷ ss) = false
+is_matched opens (said.Reg w z ∷ ss) = is_matched opens ss
+is_matched opens (said.Sense w s ∷ ss) = is_matched opens ss
+is_matched opens (said.Does s ∷ ss) = is_matched opens ss
+
 -- an `else` of an empty second list may stand or be left out: without those that stand right before their `end`
 abbrev pub drops_else : Said → List Said → List Said
 drops_else said.Else (said.End ∷ ss) = said.End ∷ ss
@@ -47,17 +65,9 @@ without_idle_else [] = []
 without_idle_else (s ∷ ss) = drops_else s (without_idle_else ss)
 
 -- a statement without `add`, which version 1 has not
-abbrev pub all_plain : List Bool → Bool
-all_plain [] = true
-all_plain (b ∷ bs) = if_both b (all_plain bs)
-  where
-    if_both : Bool → Bool → Bool
-    if_both true c = c
-    if_both false c = false
-
 abbrev pub plain_step : Stmt-F Bool → Bool
 plain_step (Stmt-F.Let reg e) = true
-plain_step (Stmt-F.If test first second) = all_plain (all_plain first ∷ all_plain second ∷ [])
+plain_step (Stmt-F.If test first second) = all_true first && all_true second
 plain_step (Stmt-F.Set place x y) = true
 plain_step (Stmt-F.Add place x y) = false
 plain_step (Stmt-F.Wait e) = true
@@ -67,7 +77,7 @@ is_plain = fold-Stmt Bool plain_step
 
 -- the statements of that version
 abbrev pub IsOfVersion : ℕ → Program → Type 0
-IsOfVersion version p = version ≡ 1 → all_plain (map is_plain p.body) ≡ true
+IsOfVersion version p = version ≡ 1 → all_true (map is_plain p.body) ≡ true
 
 -- the text says what the program's lines say, each line spelled in the grammar's order, within the limits
 pub record IsRule (t : Table) (version : ℕ) (text : List ℕ) (p : Program) : Type 0 where
@@ -75,6 +85,7 @@ pub record IsRule (t : Table) (version : ℕ) (text : List ℕ) (p : Program) : 
   pub said : List Said
   pub lexed : rows_from 1 (lines_of text) ≡ Some rows
   pub spelled : map (λ (r : Row). r.tokens) rows ≡ map (spell_said (program_scope t p)) said
+  pub matched : is_matched [] said ≡ true
   pub says : without_idle_else said ≡ program_says p
   pub short : AllByRecursion IsShort rows
   pub fits : fits p (record { classes = class_rows t }) ≡ true
