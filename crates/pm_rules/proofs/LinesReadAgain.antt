@@ -65,9 +65,9 @@ let_read sc version d reg e known low =
     let parts = let_parts sc version reg e known in
     let fits : tokens_of e ≤ 64 = omega (arith, low, ap (λ (ts : List Tok). length ts) (does-Let sc reg e), expression_counted sc e) in
     rw (
-    does-Let sc reg e,
-    expression_alone sc d e parts.1 fits,
-    number_again sc.regs d.regs reg (below reg (length sc.regs) parts.0),
+      does-Let sc reg e,
+      expression_alone sc d e parts.1 fits,
+      number_again sc.regs d.regs reg (below reg (length sc.regs) parts.0),
     ) refl
 
 wait_read : (sc : Scope) (version : ℕ) → IsScope sc → (e : Expr) → IsReadLine sc version (Wait e)
@@ -93,9 +93,9 @@ change_read sc d p x y known low =
     let parts = change_parts (class_rows sc.table) (known_in sc) p x y known in
     let tail = spell sc x ++ (symbol symbols.Comma ∷ spell sc y) in
     rw (
-    place_read sc d p (symbol symbols.Assign ∷ tail) parts.place_there (omega arith) (assign_no_bracket tail),
-    expression_read sc d x 64 (symbol symbols.Comma ∷ spell sc y) parts.x_known (omega arith) (comma_no_dot (spell sc y)),
-    expression_alone sc d y parts.y_known (omega arith),
+      place_read sc d p (symbol symbols.Assign ∷ tail) parts.place_there (omega arith) (assign_no_bracket tail),
+      expression_read sc d x 64 (symbol symbols.Comma ∷ spell sc y) parts.x_known (omega arith) (comma_no_dot (spell sc y)),
+      expression_alone sc d y parts.y_known (omega arith),
     ) refl
 
 set_read : (sc : Scope) (version : ℕ) → IsScope sc → (p : Place) (x y : Expr) → IsReadLine sc version (Set p x y)

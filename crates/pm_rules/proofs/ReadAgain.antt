@@ -127,12 +127,12 @@ reg_again sc d r (suc n) rest known low nodot =
     let h : r < length sc.regs = below r (length sc.regs) (sym (known-Reg (known_in sc) r) ∙ known) in
     let free = not_reserved (get_or sc.regs r []) (d.free_regs r h) in
     rw (
-    spell-Reg sc r,
-    not_now (get_or sc.regs r []) free,
-    not_me (get_or sc.regs r []) free,
-    free,
-    nodot,
-    number_again sc.regs d.regs r h,
+      spell-Reg sc r,
+      not_now (get_or sc.regs r []) free,
+      not_me (get_or sc.regs r []) free,
+      free,
+      nodot,
+      number_again sc.regs d.regs r h,
     ) refl
 
 part_again : (sc : Scope) → IsScope sc → (k : ℕ) (f : Field) → IsReadAgain sc (Part k f)
@@ -142,12 +142,12 @@ part_again sc d k f (suc n) rest known low nodot =
     let h : k < length sc.senses = below k (length sc.senses) (sym (known-Part (known_in sc) k f) ∙ known) in
     let free = not_reserved (get_or sc.senses k []) (d.free_senses k h) in
     rw (
-    spell-Part sc k f,
-    not_now (get_or sc.senses k []) free,
-    not_me (get_or sc.senses k []) free,
-    free,
-    field_again f rest,
-    number_again sc.senses d.senses k h,
+      spell-Part sc k f,
+      not_now (get_or sc.senses k []) free,
+      not_me (get_or sc.senses k []) free,
+      free,
+      field_again f rest,
+      number_again sc.senses d.senses k h,
     ) refl
 
 pub regroup : (a b rest : List Tok) (o : Tok) →
@@ -173,11 +173,11 @@ bin_again sc o a b ra rb (suc n) rest known low nodot =
     let first = ra n (op_token o ∷ (spell sc b ++ tail)) parts.0 low_a (operator_no_dot o (spell sc b ++ tail)) in
     let second = rb n tail parts.1 low_b (close_no_dot rest) in
     rw (
-    spell-Bin sc o a b,
-    regroup (spell sc a) (spell sc b) rest (op_token o),
-    first,
-    operator_again o (spell sc b ++ tail),
-    second,
+      spell-Bin sc o a b,
+      regroup (spell sc a) (spell sc b) rest (op_token o),
+      first,
+      operator_again o (spell sc b ++ tail),
+      second,
     ) (closed_again o a b rest)
 
 -- a spelled expression is read, and what stands behind it is left
@@ -224,10 +224,10 @@ member_again sc d class at rest known low =
     let there : class < length (class_names sc.table) = omega (arith, same_length sc.table, class_there (class_rows sc.table) class parts.0) in
     let index = expression_read sc d at 64 (symbol symbols.RightBracket ∷ rest) parts.1 (omega arith) refl in
     rw (
-    append_assoc (spell sc at) (symbol symbols.RightBracket ∷ []) rest,
-    index,
-    number_again (class_names sc.table) d.classes class there,
-    parts.0,
+      append_assoc (spell sc at) (symbol symbols.RightBracket ∷ []) rest,
+      index,
+      number_again (class_names sc.table) d.classes class there,
+      parts.0,
     ) refl
 
 -- a spelled place is read, whatever follows but a bracket

@@ -69,10 +69,10 @@ sense_kept sc regs senses w (sense.Read p) known = rw (place_kept sc regs senses
 sense_kept sc regs senses w (sense.Scan class x0 x1 y0 y1) known =
     let parts = scan_parts (class_rows sc.table) (known_in sc) class x0 x1 y0 y1 known in
     rw (
-    expression_kept sc regs senses x0 parts.x0_known,
-    expression_kept sc regs senses x1 parts.x1_known,
-    expression_kept sc regs senses y0 parts.y0_known,
-    expression_kept sc regs senses y1 parts.y1_known,
+      expression_kept sc regs senses x0 parts.x0_known,
+      expression_kept sc regs senses x1 parts.x1_known,
+      expression_kept sc regs senses y0 parts.y0_known,
+      expression_kept sc regs senses y1 parts.y1_known,
     ) refl
 
 change_kept : (sc : Scope) (regs senses : List (List ℕ)) (w : List ℕ) (p : Place) (x y : Expr) →
@@ -81,9 +81,9 @@ change_kept : (sc : Scope) (regs senses : List (List ℕ)) (w : List ℕ) (p : P
 change_kept sc regs senses w p x y known =
     let parts = change_parts (class_rows sc.table) (known_in sc) p x y known in
     rw (
-    place_kept sc regs senses p parts.place_there,
-    expression_kept sc regs senses x parts.x_known,
-    expression_kept sc regs senses y parts.y_known,
+      place_kept sc regs senses p parts.place_there,
+      expression_kept sc regs senses x parts.x_known,
+      expression_kept sc regs senses y parts.y_known,
     ) refl
 
 abbrev DoesKept : Scope → List (List ℕ) → List (List ℕ) → ℕ → Stmt → Type 0
@@ -93,10 +93,10 @@ let_kept : (sc : Scope) (regs senses : List (List ℕ)) (version reg : ℕ) (e :
 let_kept sc regs senses version reg e known =
     let parts = let_parts sc version reg e known in
     rw (
-    does-Let (extended sc regs senses) reg e,
-    does-Let sc reg e,
-    name_kept sc.regs regs reg parts.0,
-    expression_kept sc regs senses e parts.1,
+      does-Let (extended sc regs senses) reg e,
+      does-Let sc reg e,
+      name_kept sc.regs regs reg parts.0,
+      expression_kept sc regs senses e parts.1,
     ) refl
 
 set_kept : (sc : Scope) (regs senses : List (List ℕ)) (version : ℕ) (p : Place) (x y : Expr) → DoesKept sc regs senses version (Set p x y)
@@ -114,9 +114,9 @@ add_kept sc regs senses version p x y known =
 wait_kept : (sc : Scope) (regs senses : List (List ℕ)) (version : ℕ) (e : Expr) → DoesKept sc regs senses version (Wait e)
 wait_kept sc regs senses version e known =
     rw (
-    does-Wait (extended sc regs senses) e,
-    does-Wait sc e,
-    expression_kept sc regs senses e (sym (sayable-Wait sc version e) ∙ known),
+      does-Wait (extended sc regs senses) e,
+      does-Wait sc e,
+      expression_kept sc regs senses e (sym (sayable-Wait sc version e) ∙ known),
     ) refl
 
 does_kept : (sc : Scope) (regs senses : List (List ℕ)) (version : ℕ) (s : Stmt) → DoesKept sc regs senses version s
