@@ -1,23 +1,21 @@
 -- What the lines said stands in the draft that they lead to.
-use Rattle.std.proofs.Common.{◌≡◌, ◌∙◌, ap, refl, sym, subst, arith, ℕ, ℤ, ◌+◌, Bool, true, false, List, [], ◌∷◌, ◌++◌, Option, Some, None, append_assoc}
-use Rattle.std.specs.Prelude.{map, not, ◌&&◌, ◌||◌, is_some}
+use Rattle.std.proofs.Common.{◌≡◌, ◌∙◌, ap, refl, sym, ℕ, ℤ, Bool, true, false, List, [], ◌∷◌, ◌++◌, Option, Some, None, append_assoc}
+use Rattle.std.specs.Prelude.{map, not, ◌&&◌, ◌||◌}
 use Rattle.std.proofs.lemmas.List.{append-nil}
 use Rattle.pm_base.specs.declared.program.Expr.{Expr}
-use Rattle.pm_base.specs.declared.program.Program.{Program}
 use Rattle.pm_base.specs.declared.program.RegRow.{RegRow}
 use Rattle.pm_base.specs.declared.program.SenseRow.{SenseRow}
 use Rattle.pm_base.specs.declared.program.Sense.{Sense}
 use Rattle.pm_base.specs.declared.program.Stmt.{Stmt}
 use Rattle.pm_base.specs.declared.program.Stmt.TheVariants.{If}
-use Rattle.pm_rules.specs.Grammar.{drops_else, is_matched, without_idle_else}
-use Rattle.pm_rules.specs.Nesting.{all_said, are_taken, draft_of, draft_says, first_said, frames_said, is_taken, opens, IsOneLine}
-use Rattle.pm_rules.specs.Rules.{ended, empty, has_no_first, is_begun, is_empty, is_one_too_many, is_out_of_order, is_twice, is_unmatched, last_frame, opened, takes_else, turned, whole_if, with_first, with_said}
-use Rattle.pm_rules.specs.Spelling.{concat, else_said, program_says, reg_said, says, says_all, sense_said}
+use Rattle.pm_rules.specs.Nesting.{draft_says, first_said, frames_said}
+use Rattle.pm_rules.specs.Rules.{has_no_first, is_empty, last_frame, takes_else, whole_if, with_first, with_said}
+use Rattle.pm_rules.specs.Spelling.{else_said, reg_said, says, says_all, sense_said}
 use Rattle.pm_rules.specs.declared.draft.Draft.{Draft}
 use Rattle.pm_rules.specs.declared.draft.Frame.{Frame}
 use Rattle.pm_rules.specs.declared.said.Said.{Said}
 use Rattle.pm_rules.specs.declared.said.Said.TheVariants as said
-use Rattle.pm_rules.proofs.NestingLaws.{last_frame-append, says-If}
+use Rattle.pm_rules.proofs.NestingLaws.{says-If}
 
 pub both : (x y : Bool) → (x && y) ≡ true → (x ≡ true) × (y ≡ true)
 both true true e = (refl, refl)

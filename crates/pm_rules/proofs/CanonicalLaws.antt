@@ -1,24 +1,18 @@
 -- The lines of a program have no needless `else`, and needless ones make no difference.
-use Rattle.std.proofs.Common.{◌≡◌, ◌∙◌, ap, refl, sym, subst, Bool, true, false, List, [], ◌∷◌, ◌++◌, Option, Some, None, append_assoc}
-use Rattle.std.specs.Prelude.{map, not, ◌&&◌, ◌||◌, is_some}
-use Rattle.std.proofs.lemmas.List.{append-nil}
+use Rattle.std.proofs.Common.{◌≡◌, ◌∙◌, ap, refl, sym, List, [], ◌∷◌, ◌++◌, append_assoc}
+use Rattle.std.specs.Prelude.{map}
 use Rattle.pm_base.specs.declared.program.Expr.{Expr}
 use Rattle.pm_base.specs.declared.program.Program.{Program}
 use Rattle.pm_base.specs.declared.program.RegRow.{RegRow}
 use Rattle.pm_base.specs.declared.program.SenseRow.{SenseRow}
 use Rattle.pm_base.specs.declared.program.Stmt.{Stmt}
-use Rattle.pm_base.specs.declared.program.Stmt.TheFolds.{ind-Stmt, map-Stmt}
-use Rattle.pm_base.specs.declared.program.Stmt.TheOpen.{Stmt-F}
-use Rattle.pm_base.specs.declared.program.Stmt.TheVariants.{Let, If, Set, Add, Wait, rolls-Let, rolls-If, rolls-Set, rolls-Add, rolls-Wait}
-use Rattle.pm_base.specs.declared.program.Stmt.TheViews.{roll-Stmt}
-use Rattle.pm_rules.specs.Grammar.{drops_else, ends, is_matched, without_idle_else}
-use Rattle.pm_rules.specs.Nesting.{all_said, are_taken, is_taken, opens}
-use Rattle.pm_rules.specs.Rules.{has_no_first, is_empty, is_unmatched, last_frame, opened, takes_else, turned, with_said}
-use Rattle.pm_rules.specs.Spelling.{concat, else_said, program_says, reg_said, says, says_all, sense_said}
-use Rattle.pm_rules.specs.declared.draft.Draft.{Draft}
-use Rattle.pm_rules.specs.declared.draft.Frame.{Frame}
+use Rattle.pm_base.specs.declared.program.Stmt.TheVariants.{Let, If, Set, Add, Wait}
+use Rattle.pm_rules.specs.Grammar.{drops_else, without_idle_else}
+use Rattle.pm_rules.specs.Spelling.{else_said, program_says, reg_said, says, says_all, sense_said}
 use Rattle.pm_rules.specs.declared.said.Said.{Said}
 use Rattle.pm_rules.specs.declared.said.Said.TheVariants as said
+use Rattle.pm_rules.proofs.Nested.{every_nested}
+use Rattle.pm_rules.proofs.Variants.{every_statement}
 use Rattle.pm_rules.proofs.NestingLaws.{says-Let, says-If, says-Set, says-Add, says-Wait}
 
 -- an `else` before the lines of a statement stays
@@ -31,15 +25,14 @@ keeps_does c e rest = rw e refl
 keeps_if : (test : Expr) (first second : List Stmt) → KeepsElse (If test first second)
 keeps_if test first second rest = rw (says-If test first second) refl
 
-keeps_cases : (y : Stmt-F Stmt) → KeepsElse (roll-Stmt y)
-keeps_cases (Stmt-F.Let reg e) = subst KeepsElse (sym (rolls-Let reg e)) (keeps_does (Let reg e) (says-Let reg e))
-keeps_cases (Stmt-F.If test first second) = subst KeepsElse (sym (rolls-If test first second)) (keeps_if test first second)
-keeps_cases (Stmt-F.Set place x y) = subst KeepsElse (sym (rolls-Set place x y)) (keeps_does (Set place x y) (says-Set place x y))
-keeps_cases (Stmt-F.Add place x y) = subst KeepsElse (sym (rolls-Add place x y)) (keeps_does (Add place x y) (says-Add place x y))
-keeps_cases (Stmt-F.Wait e) = subst KeepsElse (sym (rolls-Wait e)) (keeps_does (Wait e) (says-Wait e))
-
 keeps_else : (c : Stmt) → KeepsElse c
-keeps_else = ind-Stmt KeepsElse (λ x y is. keeps_cases x)
+keeps_else = every_statement KeepsElse (record {
+  let_ = λ reg e. keeps_does (Let reg e) (says-Let reg e);
+  if_ = keeps_if;
+  set = λ place x y. keeps_does (Set place x y) (says-Set place x y);
+  add = λ place x y. keeps_does (Add place x y) (says-Add place x y);
+  wait = λ e. keeps_does (Wait e) (says-Wait e);
+})
 
 -- the lines of a statement stay as they are
 abbrev IsCanonical : Stmt → Type 0
@@ -79,19 +72,14 @@ if_canonical test first second rest =
     ∙ ap (λ (ss : List Said). a ++ ss) (tail_canonical second rest ∙ sym (append_assoc b (said.End ∷ []) (without_idle_else rest)))
     ∙ sym (append_assoc a (b ++ said.End ∷ []) (without_idle_else rest))))
 
-again : (c e : Stmt) → c ≡ e → IsCanonical e → IsCanonical c
-again c e is h = subst IsCanonical (sym is) h
-
-cases : (y : Stmt-F ((c : Stmt) × IsCanonical c)) → IsCanonical (roll-Stmt (map-Stmt ((c : Stmt) × IsCanonical c) Stmt (λ c. c.0) y))
-cases (Stmt-F.Let reg e) = again _ (Let reg e) (rolls-Let reg e) (one_canonical (Let reg e) (says-Let reg e))
-cases (Stmt-F.If test first second) =
-    again _ (If test (map (λ c. c.0) first) (map (λ c. c.0) second)) (rolls-If test (map (λ c. c.0) first) (map (λ c. c.0) second)) (if_canonical test first second)
-cases (Stmt-F.Set place x y) = again _ (Set place x y) (rolls-Set place x y) (one_canonical (Set place x y) (says-Set place x y))
-cases (Stmt-F.Add place x y) = again _ (Add place x y) (rolls-Add place x y) (one_canonical (Add place x y) (says-Add place x y))
-cases (Stmt-F.Wait e) = again _ (Wait e) (rolls-Wait e) (one_canonical (Wait e) (says-Wait e))
-
 canonical : (c : Stmt) → IsCanonical c
-canonical = ind-Stmt IsCanonical (λ x y is. subst (λ (z : Stmt-F Stmt). IsCanonical (roll-Stmt z)) is (cases y))
+canonical = every_nested IsCanonical (record {
+  let_ = λ reg e. one_canonical (Let reg e) (says-Let reg e);
+  if_ = if_canonical;
+  set = λ place x y. one_canonical (Set place x y) (says-Set place x y);
+  add = λ place x y. one_canonical (Add place x y) (says-Add place x y);
+  wait = λ e. one_canonical (Wait e) (says-Wait e);
+})
 
 body_canonical : (cs : List Stmt) → without_idle_else (says_all cs) ≡ says_all cs
 body_canonical [] = refl

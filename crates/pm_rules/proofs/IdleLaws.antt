@@ -1,17 +1,17 @@
 -- The lines that were taken are the draft's lines, but for needless `else`s; and those make no difference.
-use Rattle.std.proofs.Common.{◌≡◌, ◌∙◌, ap, refl, sym, subst, inl, inr, ◌⊎◌, Bool, true, false, List, [], ◌∷◌, ◌++◌, Option, Some, None, append_assoc}
+use Rattle.std.proofs.Common.{◌≡◌, ◌∙◌, ap, refl, sym, inl, inr, ◌⊎◌, Bool, true, false, List, [], ◌∷◌, ◌++◌, Option, Some, None, append_assoc}
 use Rattle.std.specs.List.{AllByRecursion}
-use Rattle.std.specs.Prelude.{map, not, ◌&&◌, ◌||◌, is_some}
+use Rattle.std.specs.Prelude.{not, ◌&&◌}
 use Rattle.std.proofs.lemmas.List.{append-nil}
 use Rattle.pm_base.specs.declared.program.Stmt.{Stmt}
-use Rattle.pm_rules.specs.Grammar.{drops_else, ends, is_matched, without_idle_else}
-use Rattle.pm_rules.specs.Nesting.{all_said, are_taken, draft_says, is_taken, opens, IsOneLine}
-use Rattle.pm_rules.specs.Rules.{empty, is_begun, is_empty, is_one_too_many, is_out_of_order, is_twice, is_unmatched, last_frame, takes_else, with_said}
+use Rattle.pm_rules.specs.Grammar.{drops_else, without_idle_else}
+use Rattle.pm_rules.specs.Nesting.{all_said, are_taken, draft_says, is_taken, IsOneLine}
+use Rattle.pm_rules.specs.Rules.{is_begun, is_empty, is_one_too_many, is_out_of_order, is_twice, is_unmatched, last_frame, with_said}
 use Rattle.pm_rules.specs.declared.draft.Draft.{Draft}
 use Rattle.pm_rules.specs.declared.draft.Frame.{Frame}
 use Rattle.pm_rules.specs.declared.said.Said.{Said}
 use Rattle.pm_rules.specs.declared.said.Said.TheVariants as said
-use Rattle.pm_rules.proofs.BackwardLaws.{both, frame_for_else, frames_split, neither, no_last, nothing_in, says_body, says_else, says_end_first, says_end_idle, says_end_second, says_open, says_reg, says_sense, turned_false, turned_not}
+use Rattle.pm_rules.proofs.BackwardLaws.{both, frame_for_else, neither, nothing_in, says_body, says_else, says_end_first, says_end_idle, says_end_second, says_open, says_reg, says_sense, turned_false}
 
 -- one line more, where an `else` right before its `end` goes
 abbrev pub Adds : List Said → Said → List Said → Type 0

@@ -17,3 +17,4 @@ pub mod SpellingCounts
 pub mod SpellingEquations
 pub mod Variants
 pub mod WasSpelled
+pub mod Nested

@@ -1,10 +1,10 @@
 -- Lines that are taken match, and in lines that match a needless `else` makes no difference.
-use Rattle.std.proofs.Common.{◌≡◌, ◌∙◌, ap, refl, sym, subst, Bool, true, false, List, [], ◌∷◌, ◌++◌, Option, Some, None}
+use Rattle.std.proofs.Common.{◌≡◌, ◌∙◌, ap, refl, sym, Bool, true, false, List, [], ◌∷◌, ◌++◌, Option, Some, None}
 use Rattle.std.specs.Prelude.{not, ◌&&◌, is_some}
 use Rattle.pm_base.specs.declared.program.Stmt.{Stmt}
-use Rattle.pm_rules.specs.Grammar.{drops_else, ends, is_matched, without_idle_else}
+use Rattle.pm_rules.specs.Grammar.{drops_else, is_matched, without_idle_else}
 use Rattle.pm_rules.specs.Nesting.{all_said, are_taken, is_taken, opens}
-use Rattle.pm_rules.specs.Rules.{has_no_first, is_empty, is_unmatched, last_frame, takes_else, with_said}
+use Rattle.pm_rules.specs.Rules.{has_no_first, is_empty, last_frame, takes_else, with_said}
 use Rattle.pm_rules.specs.declared.draft.Draft.{Draft}
 use Rattle.pm_rules.specs.declared.draft.Frame.{Frame}
 use Rattle.pm_rules.specs.declared.said.Said.{Said}

@@ -1,5 +1,5 @@
 -- The lines of a program lead to the program.
-use Rattle.std.proofs.Common.{◌≡◌, ◌∙◌, ap, refl, sym, subst, ℕ, ◌+◌, List, [], ◌∷◌, ◌++◌, Option, Some, None, append_assoc}
+use Rattle.std.proofs.Common.{◌≡◌, ◌∙◌, ap, refl, sym, ℕ, List, [], ◌∷◌, ◌++◌, Option, Some, None, append_assoc}
 use Rattle.std.specs.Prelude.{map}
 use Rattle.std.proofs.lemmas.List.{append-nil}
 use Rattle.pm_base.specs.declared.program.Expr.{Expr}
@@ -8,13 +8,14 @@ use Rattle.pm_base.specs.declared.program.Program.{Program}
 use Rattle.pm_base.specs.declared.program.RegRow.{RegRow}
 use Rattle.pm_base.specs.declared.program.SenseRow.{SenseRow}
 use Rattle.pm_base.specs.declared.program.Stmt.{Stmt}
-use Rattle.pm_base.specs.declared.program.Stmt.TheFolds.{fold-roll-Stmt, ind-Stmt, map-Stmt}
+use Rattle.pm_base.specs.declared.program.Stmt.TheFolds.{fold-roll-Stmt}
 use Rattle.pm_base.specs.declared.program.Stmt.TheOpen.{Stmt-F}
 use Rattle.pm_base.specs.declared.program.Stmt.TheVariants.{Let, If, Set, Add, Wait, rolls-Let, rolls-If, rolls-Set, rolls-Add, rolls-Wait}
 use Rattle.pm_base.specs.declared.program.Stmt.TheViews.{roll-Stmt}
 use Rattle.pm_rules.specs.Nesting.{all_said, draft_of}
-use Rattle.pm_rules.specs.Rules.{ended, empty, last_frame, opened, turned, with_first, with_said}
-use Rattle.pm_rules.specs.Spelling.{concat, else_said, program_says, reg_said, says, says_all, says_step, sense_said}
+use Rattle.pm_rules.proofs.Nested.{every_nested}
+use Rattle.pm_rules.specs.Rules.{empty, last_frame, with_first, with_said}
+use Rattle.pm_rules.specs.Spelling.{else_said, program_says, reg_said, says, says_all, says_step, sense_said}
 use Rattle.pm_rules.specs.declared.draft.Draft.{Draft}
 use Rattle.pm_rules.specs.declared.draft.Frame.{Frame}
 use Rattle.pm_rules.specs.declared.said.Said.{Said}
@@ -119,19 +120,14 @@ if_whole test first second d =
     ∙ ap (λ (e : Draft). all_said (else_said (map says b) ++ said.End ∷ []) e) (list_whole first (inside test None [] d))
     ∙ tail_whole test a second d
 
-again : (c e : Stmt) → c ≡ e → IsSaidWhole e → IsSaidWhole c
-again c e is h = subst IsSaidWhole (sym is) h
-
-cases : (y : Stmt-F ((c : Stmt) × IsSaidWhole c)) → IsSaidWhole (roll-Stmt (map-Stmt ((c : Stmt) × IsSaidWhole c) Stmt (λ c. c.0) y))
-cases (Stmt-F.Let reg e) = again _ (Let reg e) (rolls-Let reg e) (one_whole (Let reg e) (says-Let reg e))
-cases (Stmt-F.If test first second) =
-    again _ (If test (map (λ c. c.0) first) (map (λ c. c.0) second)) (rolls-If test (map (λ c. c.0) first) (map (λ c. c.0) second)) (if_whole test first second)
-cases (Stmt-F.Set place x y) = again _ (Set place x y) (rolls-Set place x y) (one_whole (Set place x y) (says-Set place x y))
-cases (Stmt-F.Add place x y) = again _ (Add place x y) (rolls-Add place x y) (one_whole (Add place x y) (says-Add place x y))
-cases (Stmt-F.Wait e) = again _ (Wait e) (rolls-Wait e) (one_whole (Wait e) (says-Wait e))
-
 pub said_whole : (c : Stmt) → IsSaidWhole c
-said_whole = ind-Stmt IsSaidWhole (λ x y is. subst (λ (z : Stmt-F Stmt). IsSaidWhole (roll-Stmt z)) is (cases y))
+said_whole = every_nested IsSaidWhole (record {
+  let_ = λ reg e. one_whole (Let reg e) (says-Let reg e);
+  if_ = if_whole;
+  set = λ place x y. one_whole (Set place x y) (says-Set place x y);
+  add = λ place x y. one_whole (Add place x y) (says-Add place x y);
+  wait = λ e. one_whole (Wait e) (says-Wait e);
+})
 
 pub all_whole : (cs : List Stmt) (d : Draft) → all_said (says_all cs) d ≡ with_body cs d
 all_whole [] d = sym (with_body-nil d)

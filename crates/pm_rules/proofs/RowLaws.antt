@@ -1,10 +1,10 @@
 -- The lines of a text, as rows.
-use Rattle.std.proofs.Common.{◌≡◌, ◌≢◌, ◌∙◌, ap, refl, sym, subst, arith, inl, inr, ◌⊎◌, ℕ, ◌+◌, ◌≤◌, Bool, true, false, List, [], ◌∷◌, ◌++◌, Option, Some, None, length, nat_lt, Result, Ok, Err}
+use Rattle.std.proofs.Common.{◌≡◌, ◌∙◌, ap, refl, sym, subst, arith, ℕ, ◌+◌, ◌≤◌, Bool, true, false, List, [], ◌∷◌, Option, Some, None, length, nat_lt, Result, Ok, Err}
 use Rattle.std.specs.List.{AllByRecursion}
-use Rattle.std.specs.Prelude.{map, not, ◌&&◌, ◌||◌, if◌then◌else◌, option_map}
+use Rattle.std.specs.Prelude.{not, ◌&&◌, ◌||◌, if◌then◌else◌}
 use Rattle.std.proofs.lemmas.Bool.Decides.{nat_tests}
 use Rattle.std.proofs.lemmas.Option.{same_Some}
-use Rattle.pm_rules.specs.Grammar.{IsShort, Row, or_none, rows_from, with_row}
+use Rattle.pm_rules.specs.Grammar.{IsShort, Row, rows_from, with_row}
 use Rattle.pm_rules.specs.Lexing.{lex}
 use Rattle.pm_rules.specs.Lines.{code}
 use Rattle.pm_rules.specs.Nesting.{AreRead, after_rows, all_said, are_taken, is_taken}
