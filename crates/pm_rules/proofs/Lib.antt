@@ -18,3 +18,4 @@ pub mod SpellingEquations
 pub mod Variants
 pub mod WasSpelled
 pub mod Nested
+pub mod FineLaws

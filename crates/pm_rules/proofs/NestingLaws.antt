@@ -78,18 +78,18 @@ list_whole (c ∷ cs) d =
     ∙ with_body-more c.0 (map (λ c. c.0) cs) d
 
 -- the draft within an `if`
-abbrev inside : Expr → Option (List Stmt) → List Stmt → Draft → Draft
+abbrev pub inside : Expr → Option (List Stmt) → List Stmt → Draft → Draft
 inside test first body d = record d { frames = d.frames ++ record { test = test; first = first; outer = d.body } ∷ []; body = body }
 
-end_first : (test : Expr) (body : List Stmt) (d : Draft) → with_said said.End (inside test None body d) ≡ with_body (If test body [] ∷ []) d
+pub end_first : (test : Expr) (body : List Stmt) (d : Draft) → with_said said.End (inside test None body d) ≡ with_body (If test body [] ∷ []) d
 unfolding with_said
 end_first test body d = rw (last_frame-append d.frames (record { test = test; first = None; outer = d.body })) refl
 
-end_second : (test : Expr) (first body : List Stmt) (d : Draft) → with_said said.End (inside test (Some first) body d) ≡ with_body (If test first body ∷ []) d
+pub end_second : (test : Expr) (first body : List Stmt) (d : Draft) → with_said said.End (inside test (Some first) body d) ≡ with_body (If test first body ∷ []) d
 unfolding with_said
 end_second test first body d = rw (last_frame-append d.frames (record { test = test; first = Some first; outer = d.body })) refl
 
-else_first : (test : Expr) (body : List Stmt) (d : Draft) → with_said said.Else (inside test None body d) ≡ inside test (Some body) [] d
+pub else_first : (test : Expr) (body : List Stmt) (d : Draft) → with_said said.Else (inside test None body d) ≡ inside test (Some body) [] d
 unfolding with_said
 else_first test body d = rw (last_frame-append d.frames (record { test = test; first = None; outer = d.body })) refl
 
@@ -105,7 +105,7 @@ tail_whole test first (c ∷ cs) d =
     ∙ ap (λ (e : Draft). with_said said.End e) (list_whole (c ∷ cs) (inside test (Some first) [] d))
     ∙ end_second test first second d
 
-if_open : (test : Expr) (d : Draft) → with_said (said.If test) d ≡ inside test None [] d
+pub if_open : (test : Expr) (d : Draft) → with_said (said.If test) d ≡ inside test None [] d
 unfolding with_said
 if_open test d = refl
 

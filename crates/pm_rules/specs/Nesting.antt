@@ -1,13 +1,16 @@
 -- What lines say, one after another.
-use Rattle.std.specs.Prelude.{◌≡◌, ℕ, Bool, true, not, ◌&&◌, List, [], ◌∷◌, ◌++◌, Option, Some, None, is_some, Result, Ok}
+use Rattle.std.specs.Prelude.{◌≡◌, ◌≤◌, ◌+◌, length, ℕ, Bool, true, not, ◌&&◌, List, [], ◌∷◌, ◌++◌, Option, Some, None, is_some, Result, Ok}
 use Rattle.pm_base.specs.declared.program.Program.{Program}
 use Rattle.pm_base.specs.declared.program.Stmt.{Stmt}
-use Rattle.pm_rules.specs.Grammar.{Row}
-use Rattle.pm_rules.specs.Reading.{Table}
+use Rattle.pm_base.specs.Fits.{depth_of, stmt_fits}
+use Rattle.pm_base.specs.declared.fits.Known.{Known}
+use Rattle.pm_rules.specs.Grammar.{Row, is_plain}
+use Rattle.pm_rules.specs.Reading.{Table, class_rows}
+use Rattle.pm_rules.specs.Sayable.{is_sayable}
 use Rattle.pm_rules.specs.Statements.{statement}
 use Rattle.pm_rules.specs.declared.fault.RuleFault.{RuleFault}
 use Rattle.pm_rules.specs.Rules.{after_read, go_on, scope_of, is_one_too_many, is_out_of_order, is_twice, is_unmatched, with_said}
-use Rattle.pm_rules.specs.Spelling.{reg_said, says_all, sense_said}
+use Rattle.pm_rules.specs.Spelling.{reg_said, says_all, sense_said, spell_said}
 use Rattle.pm_rules.specs.declared.draft.Draft.{Draft}
 use Rattle.pm_rules.specs.declared.draft.Frame.{Frame}
 use Rattle.pm_rules.specs.declared.said.Said.{Said}
@@ -65,3 +68,19 @@ AreRead t version d (r ∷ rs) (s ∷ ss) =
     (statement (scope_of t d) version r.tokens ≡ Some (s, true)) × AreRead t version (with_said s d) rs ss
 AreRead t version d [] (s ∷ ss) = ⊥
 AreRead t version d (r ∷ rs) [] = ⊥
+
+-- a line that is taken, whose names are there, within its limit of tokens
+pub record IsFine (t : Table) (version : ℕ) (d : Draft) (s : Said) : Type 0 where
+  pub taken : is_taken d s ≡ true
+  pub sayable : is_sayable (scope_of t d) version s ≡ true
+  pub short : length (spell_said (scope_of t d) s) ≤ 64
+
+abbrev pub AreFine : Table → ℕ → Draft → List Said → Type 0
+AreFine t version d [] = Unit {0}
+AreFine t version d (s ∷ ss) = IsFine t version d s × AreFine t version (with_said s d) ss
+
+-- a statement that fits among so many open `if`s, in that version
+pub record IsGood (t : Table) (version : ℕ) (k : Known) (open_ifs : ℕ) (c : Stmt) : Type 0 where
+  pub fits : stmt_fits (class_rows t) k c ≡ true
+  pub depth : depth_of c + open_ifs ≤ 8
+  pub plain : version ≡ 1 → is_plain c ≡ true

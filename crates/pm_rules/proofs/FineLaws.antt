@@ -1,0 +1,222 @@
+-- The lines of statements are fine where the statements fit.
+use Rattle.std.proofs.Common.{◌≡◌, ◌∙◌, ap, refl, sym, subst, arith, rules, ℕ, suc, zero, ◌+◌, ◌≤◌, ◌<◌, Bool, true, false, List, [], ◌∷◌, ◌++◌, Option, Some, None, length, nat_lt, append_assoc, inl, inr, ◌⊎◌}
+use Rattle.std.specs.List.{AllByRecursion}
+use Rattle.std.specs.Prelude.{codes, map, max, not, nat_le, ◌&&◌, ◌==◌}
+use Rattle.std.proofs.lemmas.Bool.Decides.{nat_tests}
+use Rattle.std.proofs.lemmas.List.{append-nil, length-append}
+use Rattle.pm_base.specs.Fits.{all_true, change_known, change_tokens, depth_of, greatest, in_line, is_known, stmt_fits, tokens_of}
+use Rattle.pm_base.specs.declared.fits.Known.{Known}
+use Rattle.pm_base.specs.declared.layout.ClassRow.{ClassRow}
+use Rattle.pm_base.specs.declared.program.Expr.{Expr}
+use Rattle.pm_base.specs.declared.program.Place.{Place}
+use Rattle.pm_base.specs.declared.program.Stmt.{Stmt, the_lemmas}
+use Rattle.pm_base.specs.declared.program.Stmt.TheVariants.{Let, If, Set, Add, Wait}
+use Rattle.pm_rules.specs.Grammar.{is_plain}
+use Rattle.pm_rules.specs.Nesting.{AreFine, IsFine, IsGood}
+use Rattle.pm_rules.specs.Reading.{Scope, Table, class_rows}
+use Rattle.pm_rules.specs.Rules.{scope_of, with_said}
+use Rattle.pm_rules.specs.Sayable.{does_sayable, is_sayable, known_in}
+use Rattle.pm_rules.specs.Spelling.{else_said, says, says_all, spell, spell_does, spell_said}
+use Rattle.pm_rules.specs.Tokens.{Tok}
+use Rattle.pm_rules.specs.declared.draft.Draft.{Draft}
+use Rattle.pm_rules.specs.declared.draft.Frame.{Frame}
+use Rattle.pm_rules.specs.declared.said.Said.{Said}
+use Rattle.pm_rules.specs.declared.said.Said.TheVariants as said
+use Rattle.pm_rules.proofs.BackwardLaws.{both}
+use Rattle.pm_rules.proofs.Nested.{Proved, every_nested, stmts}
+use Rattle.pm_rules.proofs.NestingLaws.{else_first, end_first, end_second, if_open, inside, says-Add, says-If, says-Let, says-Set, says-Wait, with_body}
+use Rattle.pm_rules.proofs.SpellingCounts.{change_counted, expression_counted}
+use Rattle.pm_rules.proofs.SpellingEquations.{does-Add, does-Let, does-Set, does-Wait, sayable-Add, sayable-Let, sayable-Set, sayable-Wait}
+
+fits-Let : (cs : List ClassRow) (k : Known) (reg : ℕ) (e : Expr) → stmt_fits cs k (Let reg e) ≡ (in_line (3 + tokens_of e) && (nat_lt reg k.regs && is_known k e))
+fits-Let cs k reg e = search (rules, the_lemmas)
+
+fits-If : (cs : List ClassRow) (k : Known) (test : Expr) (first second : List Stmt) → stmt_fits cs k (If test first second) ≡
+    (in_line (1 + tokens_of test) && is_known k test && (all_true (map (stmt_fits cs k) first) && all_true (map (stmt_fits cs k) second)))
+fits-If cs k test first second = search (rules, the_lemmas)
+
+fits-Set : (cs : List ClassRow) (k : Known) (place : Place) (x y : Expr) → stmt_fits cs k (Set place x y) ≡ (in_line (change_tokens place x y) && change_known cs k place x y)
+fits-Set cs k place x y = search (rules, the_lemmas)
+
+fits-Add : (cs : List ClassRow) (k : Known) (place : Place) (x y : Expr) → stmt_fits cs k (Add place x y) ≡ (in_line (change_tokens place x y) && change_known cs k place x y)
+fits-Add cs k place x y = search (rules, the_lemmas)
+
+fits-Wait : (cs : List ClassRow) (k : Known) (e : Expr) → stmt_fits cs k (Wait e) ≡ (in_line (1 + tokens_of e) && is_known k e)
+fits-Wait cs k e = search (rules, the_lemmas)
+
+depth-Let : (reg : ℕ) (e : Expr) → depth_of (Let reg e) ≡ 0
+depth-Let reg e = search (rules, the_lemmas)
+
+depth-If : (test : Expr) (first second : List Stmt) → depth_of (If test first second) ≡ 1 + max (greatest (map depth_of first)) (greatest (map depth_of second))
+depth-If test first second = search (rules, the_lemmas)
+
+depth-Set : (place : Place) (x y : Expr) → depth_of (Set place x y) ≡ 0
+depth-Set place x y = search (rules, the_lemmas)
+
+depth-Add : (place : Place) (x y : Expr) → depth_of (Add place x y) ≡ 0
+depth-Add place x y = search (rules, the_lemmas)
+
+depth-Wait : (e : Expr) → depth_of (Wait e) ≡ 0
+depth-Wait e = search (rules, the_lemmas)
+
+plain-Let : (reg : ℕ) (e : Expr) → is_plain (Let reg e) ≡ true
+plain-Let reg e = search (rules, the_lemmas)
+
+plain-If : (test : Expr) (first second : List Stmt) → is_plain (If test first second) ≡ (all_true (map is_plain first) && all_true (map is_plain second))
+plain-If test first second = search (rules, the_lemmas)
+
+plain-Set : (place : Place) (x y : Expr) → is_plain (Set place x y) ≡ true
+plain-Set place x y = search (rules, the_lemmas)
+
+plain-Add : (place : Place) (x y : Expr) → is_plain (Add place x y) ≡ false
+plain-Add place x y = search (rules, the_lemmas)
+
+plain-Wait : (e : Expr) → is_plain (Wait e) ≡ true
+plain-Wait e = search (rules, the_lemmas)
+
+and_true : (x y : Bool) → x ≡ true → y ≡ true → (x && y) ≡ true
+and_true true y a b = b
+and_true false y a b = cc
+
+line_test : (n : ℕ) → n ≤ 64 → in_line n ≡ true
+line_test n h = grind (arith, nat_tests)
+
+line_is : (n : ℕ) → in_line n ≡ true → n ≤ 64
+line_is n h = grind (arith, nat_tests)
+
+two_not_one : (version : ℕ) → (version == 2) ≡ true → version ≡ 1 → ⊥
+two_not_one version e is = cc_one (subst (λ (v : ℕ). (v == 2) ≡ true) is e)
+  where
+    cc_one : (1 == 2) ≡ true → ⊥
+    cc_one e = cc
+
+-- what one line gives: it is fine where the statement fits
+pub record OneLine (t : Table) (version : ℕ) (sc : Scope) (c : Stmt) : Type 0 where
+  pub from : does_sayable sc version c ≡ true → length (spell_does sc c) ≤ 64 →
+    (stmt_fits (class_rows sc.table) (known_in sc) c ≡ true) × (depth_of c ≡ 0) × (version ≡ 1 → is_plain c ≡ true)
+  pub to : (version ≡ 1) ⊎ (version ≡ 2) → stmt_fits (class_rows sc.table) (known_in sc) c ≡ true → (version ≡ 1 → is_plain c ≡ true) →
+    (does_sayable sc version c ≡ true) × (length (spell_does sc c) ≤ 64)
+
+let_line : (t : Table) (version : ℕ) (sc : Scope) (reg : ℕ) (e : Expr) → OneLine t version sc (Let reg e)
+let_line t version sc reg e = record {
+  from = λ known low. (
+    rw (fits-Let (class_rows sc.table) (known_in sc) reg e)
+    (and_true _ _ (line_test (3 + tokens_of e) (omega (arith, ap (λ (ts : List Tok). length ts) (does-Let sc reg e), expression_counted sc e)))
+    (sym (sayable-Let sc version reg e) ∙ known)),
+    depth-Let reg e,
+    λ one. plain-Let reg e);
+  to = λ which fits plain.
+    let parts = both _ _ (sym (fits-Let (class_rows sc.table) (known_in sc) reg e) ∙ fits) in
+    (sayable-Let sc version reg e ∙ parts.1,
+    (let low = line_is (3 + tokens_of e) parts.0 in omega (arith, low, ap (λ (ts : List Tok). length ts) (does-Let sc reg e), expression_counted sc e)));
+}
+
+set_line : (t : Table) (version : ℕ) (sc : Scope) (place : Place) (x y : Expr) → OneLine t version sc (Set place x y)
+set_line t version sc place x y = record {
+  from = λ known low. (
+    rw (fits-Set (class_rows sc.table) (known_in sc) place x y)
+    (and_true _ _ (line_test (change_tokens place x y) (omega (arith, low, ap (λ (ts : List Tok). length ts) (does-Set sc place x y), change_counted sc (codes "set") place x y)))
+    (sym (sayable-Set sc version place x y) ∙ known)),
+    depth-Set place x y,
+    λ one. plain-Set place x y);
+  to = λ which fits plain.
+    let parts = both _ _ (sym (fits-Set (class_rows sc.table) (known_in sc) place x y) ∙ fits) in
+    (sayable-Set sc version place x y ∙ parts.1,
+    (let low = line_is (change_tokens place x y) parts.0 in omega (arith, low, ap (λ (ts : List Tok). length ts) (does-Set sc place x y), change_counted sc (codes "set") place x y)));
+}
+
+-- version 2 has `add`
+is_two : (version : ℕ) → (version ≡ 1) ⊎ (version ≡ 2) → (version ≡ 1 → false ≡ true) → (version == 2) ≡ true
+is_two version (inl one) never = absurd (let e = never one in is_not e)
+  where
+    is_not : false ≡ true → ⊥
+    is_not e = cc
+is_two version (inr two) never = rw two refl
+
+add_line : (t : Table) (version : ℕ) (sc : Scope) (place : Place) (x y : Expr) → OneLine t version sc (Add place x y)
+add_line t version sc place x y = record {
+  from = λ known low.
+    let parts = both (version == 2) (change_known (class_rows sc.table) (known_in sc) place x y) (sym (sayable-Add sc version place x y) ∙ known) in (
+    rw (fits-Add (class_rows sc.table) (known_in sc) place x y)
+    (and_true _ _ (line_test (change_tokens place x y) (omega (arith, low, ap (λ (ts : List Tok). length ts) (does-Add sc place x y), change_counted sc (codes "add") place x y)))
+    parts.1),
+    depth-Add place x y,
+    λ one. absurd (two_not_one version parts.0 one));
+  to = λ which fits plain.
+    let parts = both _ _ (sym (fits-Add (class_rows sc.table) (known_in sc) place x y) ∙ fits) in
+    (sayable-Add sc version place x y ∙ and_true (version == 2) _ (is_two version which (λ one. sym (plain-Add place x y) ∙ plain one)) parts.1,
+    (let low = line_is (change_tokens place x y) parts.0 in omega (arith, low, ap (λ (ts : List Tok). length ts) (does-Add sc place x y), change_counted sc (codes "add") place x y)));
+}
+
+wait_line : (t : Table) (version : ℕ) (sc : Scope) (e : Expr) → OneLine t version sc (Wait e)
+wait_line t version sc e = record {
+  from = λ known low. (
+    rw (fits-Wait (class_rows sc.table) (known_in sc) e)
+    (and_true _ _ (line_test (1 + tokens_of e) (omega (arith, low, ap (λ (ts : List Tok). length ts) (does-Wait sc e), expression_counted sc e)))
+    (sym (sayable-Wait sc version e) ∙ known)),
+    depth-Wait e,
+    λ one. plain-Wait e);
+  to = λ which fits plain.
+    let parts = both _ _ (sym (fits-Wait (class_rows sc.table) (known_in sc) e) ∙ fits) in
+    (sayable-Wait sc version e ∙ parts.1,
+    (let low = line_is (1 + tokens_of e) parts.0 in omega (arith, low, ap (λ (ts : List Tok). length ts) (does-Wait sc e), expression_counted sc e)));
+}
+
+-- so many `if`s are open
+abbrev depth : Draft → ℕ
+depth d = length d.frames
+
+abbrev Good : Table → ℕ → Draft → Stmt → Type 0
+Good t version d c = IsGood t version (known_in (scope_of t d)) (depth d) c
+
+-- fine lines are of a statement that fits, and of what follows it
+abbrev FromLines : Table → ℕ → Stmt → Type 0
+FromLines t version c = (d : Draft) (rest : List Said) → depth d ≤ 8 → AreFine t version d (says c ++ rest) →
+    Good t version d c × AreFine t version (with_body (c ∷ []) d) rest
+
+-- the lines of a statement that fits are fine where those that follow it are
+abbrev ToLines : Table → ℕ → Stmt → Type 0
+ToLines t version c = (d : Draft) (rest : List Said) → Good t version d c → AreFine t version (with_body (c ∷ []) d) rest →
+    AreFine t version d (says c ++ rest)
+
+one_from : (t : Table) (version : ℕ) (c : Stmt) → says c ≡ said.Does c ∷ [] → ((sc : Scope) → OneLine t version sc c) → FromLines t version c
+unfolding with_said
+one_from t version c e line d rest few fine =
+    let all : AreFine t version d (said.Does c ∷ rest) = subst (λ (ss : List Said). AreFine t version d (ss ++ rest)) e fine in
+    let good = (line (scope_of t d)).from all.0.sayable all.0.short in
+    (record { fits = good.0; depth = omega (arith, good.1, few); plain = good.2 }, all.1)
+
+one_to : (t : Table) (version : ℕ) → (version ≡ 1) ⊎ (version ≡ 2) → (c : Stmt) → says c ≡ said.Does c ∷ [] → ((sc : Scope) → OneLine t version sc c) →
+    ToLines t version c
+unfolding with_said
+one_to t version which c e line d rest good more =
+    let fine = (line (scope_of t d)).to which good.fits good.plain in
+    subst (λ (ss : List Said). AreFine t version d (ss ++ rest)) (sym e) (record { taken = refl; sayable = fine.0; short = fine.1 }, more)
+
+abbrev AllGood : Table → ℕ → Draft → List Stmt → Type 0
+AllGood t version d cs = AllByRecursion (Good t version d) cs
+
+with_none : (d : Draft) → with_body [] d ≡ d
+with_none d = ap (λ (b : List Stmt). record d { body = b }) (append-nil d.body)
+
+with_more : (c : Stmt) (cs : List Stmt) (d : Draft) → with_body cs (with_body (c ∷ []) d) ≡ with_body (c ∷ cs) d
+with_more c cs d = ap (λ (b : List Stmt). record d { body = b }) (append_assoc d.body (c ∷ []) cs)
+
+list_from : (t : Table) (version : ℕ) (cs : Proved (FromLines t version)) (d : Draft) (rest : List Said) → depth d ≤ 8 →
+    AreFine t version d (says_all (stmts (FromLines t version) cs) ++ rest) →
+    AllGood t version d (stmts (FromLines t version) cs) × AreFine t version (with_body (stmts (FromLines t version) cs) d) rest
+list_from t version [] d rest few fine = (tt, subst (λ (e : Draft). AreFine t version e rest) (sym (with_none d)) fine)
+list_from t version (c ∷ cs) d rest few fine =
+    let more = says_all (stmts (FromLines t version) cs) in
+    let first = c.1 d (more ++ rest) few (subst (AreFine t version d) (append_assoc (says c.0) more rest) fine) in
+    let others = list_from t version cs (with_body (c.0 ∷ []) d) rest few first.1 in
+    ((first.0, others.0), subst (λ (e : Draft). AreFine t version e rest) (with_more c.0 (stmts (FromLines t version) cs) d) others.1)
+
+list_to : (t : Table) (version : ℕ) (cs : Proved (ToLines t version)) (d : Draft) (rest : List Said) → AllGood t version d (stmts (ToLines t version) cs) →
+    AreFine t version (with_body (stmts (ToLines t version) cs) d) rest → AreFine t version d (says_all (stmts (ToLines t version) cs) ++ rest)
+list_to t version [] d rest good more = subst (λ (e : Draft). AreFine t version e rest) (with_none d) more
+list_to t version (c ∷ cs) d rest good more =
+    let lines = says_all (stmts (ToLines t version) cs) in
+    let others = list_to t version cs (with_body (c.0 ∷ []) d) rest good.1
+    (subst (λ (e : Draft). AreFine t version e rest) (sym (with_more c.0 (stmts (ToLines t version) cs) d)) more) in
+    subst (AreFine t version d) (sym (append_assoc (says c.0) lines rest)) (c.1 d (lines ++ rest) good.0 others)
