@@ -12,9 +12,9 @@ use Rattle.pm_base.specs.declared.program.Place.{Place}
 use Rattle.pm_base.specs.declared.program.Stmt.{Stmt, the_lemmas}
 use Rattle.pm_base.specs.declared.program.Stmt.TheVariants.{Let, If, Set, Add, Wait}
 use Rattle.pm_rules.specs.Grammar.{is_plain}
-use Rattle.pm_rules.specs.Nesting.{AreFine, IsFine, IsGood}
+use Rattle.pm_rules.specs.Nesting.{AreFine, IsFine, IsGood, is_taken}
 use Rattle.pm_rules.specs.Reading.{Scope, Table, class_rows}
-use Rattle.pm_rules.specs.Rules.{scope_of, with_said}
+use Rattle.pm_rules.specs.Rules.{is_empty, scope_of, with_said}
 use Rattle.pm_rules.specs.Sayable.{does_sayable, is_sayable, known_in}
 use Rattle.pm_rules.specs.Spelling.{else_said, says, says_all, spell, spell_does, spell_said}
 use Rattle.pm_rules.specs.Tokens.{Tok}
@@ -23,8 +23,9 @@ use Rattle.pm_rules.specs.declared.draft.Frame.{Frame}
 use Rattle.pm_rules.specs.declared.said.Said.{Said}
 use Rattle.pm_rules.specs.declared.said.Said.TheVariants as said
 use Rattle.pm_rules.proofs.BackwardLaws.{both}
+use Rattle.pm_rules.proofs.IdleLaws.{taken_parts}
 use Rattle.pm_rules.proofs.Nested.{Proved, every_nested, stmts}
-use Rattle.pm_rules.proofs.NestingLaws.{else_first, end_first, end_second, if_open, inside, says-Add, says-If, says-Let, says-Set, says-Wait, with_body}
+use Rattle.pm_rules.proofs.NestingLaws.{else_first, end_first, end_second, if_open, inside, last_frame-append, says-Add, says-If, says-Let, says-Set, says-Wait, with_body}
 use Rattle.pm_rules.proofs.SpellingCounts.{change_counted, expression_counted}
 use Rattle.pm_rules.proofs.SpellingEquations.{does-Add, does-Let, does-Set, does-Wait, sayable-Add, sayable-Let, sayable-Set, sayable-Wait}
 
@@ -220,3 +221,185 @@ list_to t version (c ∷ cs) d rest good more =
     let others = list_to t version cs (with_body (c.0 ∷ []) d) rest good.1
     (subst (λ (e : Draft). AreFine t version e rest) (sym (with_more c.0 (stmts (ToLines t version) cs) d)) more) in
     subst (AreFine t version d) (sym (append_assoc (says c.0) lines rest)) (c.1 d (lines ++ rest) good.0 others)
+
+-- statements that fit, one by one and together
+abbrev AreGood : Table → ℕ → Known → ℕ → List Stmt → Type 0
+AreGood t version k n cs = AllByRecursion (IsGood t version k n) cs
+
+record Together (t : Table) (version : ℕ) (k : Known) (n : ℕ) (cs : List Stmt) : Type 0 where
+  fits : all_true (map (stmt_fits (class_rows t) k) cs) ≡ true
+  depth : greatest (map depth_of cs) + n ≤ 8
+  plain : version ≡ 1 → all_true (map is_plain cs) ≡ true
+
+together : (t : Table) (version : ℕ) (k : Known) (n : ℕ) (cs : List Stmt) → n ≤ 8 → AreGood t version k n cs → Together t version k n cs
+together t version k n [] low good = record { fits = refl; depth = omega (arith, low); plain = λ one. refl }
+together t version k n (c ∷ cs) low good =
+    let more = together t version k n cs low good.1 in
+    record {
+      fits = and_true _ _ good.0.fits more.fits;
+      depth = omega (arith, good.0.depth, more.depth);
+      plain = λ one. and_true _ _ (good.0.plain one) (more.plain one);
+    }
+
+apart : (t : Table) (version : ℕ) (k : Known) (n : ℕ) (cs : List Stmt) → Together t version k n cs → AreGood t version k n cs
+apart t version k n [] all = tt
+apart t version k n (c ∷ cs) all =
+    let fits = both (stmt_fits (class_rows t) k c) (all_true (map (stmt_fits (class_rows t) k) cs)) all.fits in
+    let plain = λ (one : version ≡ 1). both (is_plain c) (all_true (map is_plain cs)) (all.plain one) in
+    (record { fits = fits.0; depth = omega (arith, all.depth); plain = λ one. (plain one).0 },
+    apart t version k n cs (record { fits = fits.1; depth = omega (arith, all.depth); plain = λ one. (plain one).1 }))
+
+if_good : (t : Table) (version : ℕ) (k : Known) (n : ℕ) (test : Expr) (a b : List Stmt) → is_known k test ≡ true → 1 + tokens_of test ≤ 64 → n + 1 ≤ 8 →
+    AreGood t version k (n + 1) a → AreGood t version k (n + 1) b → IsGood t version k n (If test a b)
+if_good t version k n test a b known low few ga gb =
+    let ta = together t version k (n + 1) a few ga in
+    let tb = together t version k (n + 1) b few gb in
+    record {
+      fits = rw (fits-If (class_rows t) k test a b, known, line_test (1 + tokens_of test) low, ta.fits, tb.fits) refl;
+      depth = omega (arith, depth-If test a b, ta.depth, tb.depth);
+      plain = λ one. plain-If test a b ∙ and_true _ _ (ta.plain one) (tb.plain one);
+    }
+
+-- what an `if` that fits gives
+record IfParts (t : Table) (version : ℕ) (k : Known) (n : ℕ) (test : Expr) (a b : List Stmt) : Type 0 where
+  known : is_known k test ≡ true
+  low : 1 + tokens_of test ≤ 64
+  few : n + 1 ≤ 8
+  first : AreGood t version k (n + 1) a
+  second : AreGood t version k (n + 1) b
+
+three : (x y z : Bool) → (x && y && z) ≡ true → (x ≡ true) × (y ≡ true) × (z ≡ true)
+three true true true e = (refl, refl, refl)
+three true true false e = cc
+three true false z e = cc
+three false y z e = cc
+
+if_parts : (t : Table) (version : ℕ) (k : Known) (n : ℕ) (test : Expr) (a b : List Stmt) → IsGood t version k n (If test a b) → IfParts t version k n test a b
+if_parts t version k n test a b good =
+    let parts = three _ _ _ (sym (fits-If (class_rows t) k test a b) ∙ good.fits) in
+    let lists = both (all_true (map (stmt_fits (class_rows t) k) a)) (all_true (map (stmt_fits (class_rows t) k) b)) parts.2 in
+    let plain = λ (one : version ≡ 1). both (all_true (map is_plain a)) (all_true (map is_plain b)) (sym (plain-If test a b) ∙ good.plain one) in
+    record {
+      known = parts.1;
+      low = line_is (1 + tokens_of test) parts.0;
+      few = omega (arith, good.depth, depth-If test a b);
+      first = apart t version k (n + 1) a (record { fits = lists.0; depth = omega (arith, good.depth, depth-If test a b); plain = λ one. (plain one).0 });
+      second = apart t version k (n + 1) b (record { fits = lists.1; depth = omega (arith, good.depth, depth-If test a b); plain = λ one. (plain one).1 });
+    }
+
+deeper : (d : Draft) (f : Frame) → length (d.frames ++ f ∷ []) ≡ depth d + 1
+deeper d f = length-append d.frames (f ∷ [])
+
+few_open : (d : Draft) (test : Expr) → is_taken d (said.If test) ≡ true → depth d + 1 ≤ 8
+few_open d test t = omega (arith, not_many (length d.frames) (taken_parts d (said.If test) t).1)
+  where
+    not_many : (n : ℕ) → nat_le 8 n ≡ false → n + 1 ≤ 8
+    not_many n e = grind (arith, nat_tests)
+
+can_open : (d : Draft) (test : Expr) → depth d + 1 ≤ 8 → is_taken d (said.If test) ≡ true
+can_open d test low = rw (few (length d.frames) low) refl
+  where
+    few : (n : ℕ) → n + 1 ≤ 8 → nat_le 8 n ≡ false
+    few n h = grind (arith, nat_tests)
+
+if_lines : (a b rest : List Said) (test : Expr) →
+    (said.If test ∷ (a ++ (b ++ said.End ∷ []))) ++ rest ≡ said.If test ∷ (a ++ (b ++ (said.End ∷ rest)))
+if_lines a b rest test =
+    ap (λ (ss : List Said). said.If test ∷ ss) (append_assoc a (b ++ said.End ∷ []) rest ∙ ap (λ (ss : List Said). a ++ ss) (append_assoc b (said.End ∷ []) rest))
+
+some_open : (fs : List Frame) (f : Frame) → is_empty (fs ++ f ∷ []) ≡ false
+some_open [] f = refl
+some_open (g ∷ fs) f = refl
+
+-- within an `if` its `end` can stand, and its `else` where none came
+end_fine : (t : Table) (version : ℕ) (test : Expr) (first : Option (List Stmt)) (body : List Stmt) (d : Draft) → IsFine t version (inside test first body d) said.End
+end_fine t version test first body d = record {
+  taken = rw (some_open d.frames (record { test = test; first = first; outer = d.body })) refl;
+  sayable = refl;
+  short = omega arith;
+}
+
+else_fine : (t : Table) (version : ℕ) (test : Expr) (body : List Stmt) (d : Draft) → IsFine t version (inside test None body d) said.Else
+else_fine t version test body d = record {
+  taken = rw (last_frame-append d.frames (record { test = test; first = None; outer = d.body })) refl;
+  sayable = refl;
+  short = omega arith;
+}
+
+-- the lines behind the first list of an `if`
+tail_from : (t : Table) (version : ℕ) (test : Expr) (a : List Stmt) (second : Proved (FromLines t version)) (d : Draft) (rest : List Said) → depth d + 1 ≤ 8 →
+    AreFine t version (inside test None a d) (else_said (map says (stmts (FromLines t version) second)) ++ (said.End ∷ rest)) →
+    AreGood t version (known_in (scope_of t d)) (depth d + 1) (stmts (FromLines t version) second)
+    × AreFine t version (with_body (If test a (stmts (FromLines t version) second) ∷ []) d) rest
+tail_from t version test a [] d rest few fine = (tt, subst (λ (e : Draft). AreFine t version e rest) (end_first test a d) fine.1)
+tail_from t version test a (c ∷ cs) d rest few fine =
+    let frame : Frame = record { test = test; first = Some a; outer = d.body } in
+    let b = stmts (FromLines t version) (c ∷ cs) in
+    let lists = list_from t version (c ∷ cs) (inside test (Some a) [] d) (said.End ∷ rest) (omega (arith, few, deeper d frame))
+    (subst (λ (e : Draft). AreFine t version e (says_all b ++ (said.End ∷ rest))) (else_first test a d) fine.1) in
+    (subst (λ (n : ℕ). AreGood t version (known_in (scope_of t d)) n b) (deeper d frame) lists.0,
+    subst (λ (e : Draft). AreFine t version e rest) (end_second test a b d) lists.1.1)
+
+tail_to : (t : Table) (version : ℕ) (test : Expr) (a : List Stmt) (second : Proved (ToLines t version)) (d : Draft) (rest : List Said) →
+    AreGood t version (known_in (scope_of t d)) (depth d + 1) (stmts (ToLines t version) second) →
+    AreFine t version (with_body (If test a (stmts (ToLines t version) second) ∷ []) d) rest →
+    AreFine t version (inside test None a d) (else_said (map says (stmts (ToLines t version) second)) ++ (said.End ∷ rest))
+tail_to t version test a [] d rest good more =
+    (end_fine t version test None a d, subst (λ (e : Draft). AreFine t version e rest) (sym (end_first test a d)) more)
+tail_to t version test a (c ∷ cs) d rest good more =
+    let frame : Frame = record { test = test; first = Some a; outer = d.body } in
+    let b = stmts (ToLines t version) (c ∷ cs) in
+    (else_fine t version test a d,
+    subst (λ (e : Draft). AreFine t version e (says_all b ++ (said.End ∷ rest))) (sym (else_first test a d))
+    (list_to t version (c ∷ cs) (inside test (Some a) [] d) (said.End ∷ rest)
+    (subst (λ (n : ℕ). AreGood t version (known_in (scope_of t d)) n b) (sym (deeper d frame)) good)
+    (end_fine t version test (Some a) b d, subst (λ (e : Draft). AreFine t version e rest) (sym (end_second test a b d)) more)))
+
+if_from : (t : Table) (version : ℕ) (test : Expr) (first second : Proved (FromLines t version)) →
+    FromLines t version (If test (stmts (FromLines t version) first) (stmts (FromLines t version) second))
+if_from t version test first second d rest few fine =
+    let a = stmts (FromLines t version) first in
+    let b = stmts (FromLines t version) second in
+    let frame : Frame = record { test = test; first = None; outer = d.body } in
+    let lines = says-If test a b in
+    let all : AreFine t version d (said.If test ∷ (says_all a ++ (else_said (map says b) ++ (said.End ∷ rest)))) =
+    subst (AreFine t version d) (ap (λ (ss : List Said). ss ++ rest) lines ∙ if_lines (says_all a) (else_said (map says b)) rest test) fine in
+    let room = few_open d test all.0.taken in
+    let lists = list_from t version first (inside test None [] d) (else_said (map says b) ++ (said.End ∷ rest)) (omega (arith, room, deeper d frame))
+    (subst (λ (e : Draft). AreFine t version e (says_all a ++ (else_said (map says b) ++ (said.End ∷ rest)))) (if_open test d) all.1) in
+    let tail = tail_from t version test a second d rest room lists.1 in
+    (if_good t version (known_in (scope_of t d)) (depth d) test a b all.0.sayable (omega (arith, all.0.short, expression_counted (scope_of t d) test)) room
+    (subst (λ (n : ℕ). AreGood t version (known_in (scope_of t d)) n a) (deeper d frame) lists.0) tail.0,
+    tail.1)
+
+if_to : (t : Table) (version : ℕ) (test : Expr) (first second : Proved (ToLines t version)) →
+    ToLines t version (If test (stmts (ToLines t version) first) (stmts (ToLines t version) second))
+if_to t version test first second d rest good more =
+    let a = stmts (ToLines t version) first in
+    let b = stmts (ToLines t version) second in
+    let frame : Frame = record { test = test; first = None; outer = d.body } in
+    let parts = if_parts t version (known_in (scope_of t d)) (depth d) test a b good in
+    let lines = tail_to t version test a second d rest parts.second more in
+    let all = list_to t version first (inside test None [] d) (else_said (map says b) ++ (said.End ∷ rest))
+    (subst (λ (n : ℕ). AreGood t version (known_in (scope_of t d)) n a) (sym (deeper d frame)) parts.first) lines in
+    subst (AreFine t version d) (sym (ap (λ (ss : List Said). ss ++ rest) (says-If test a b) ∙ if_lines (says_all a) (else_said (map says b)) rest test))
+    (record { taken = can_open d test parts.few; sayable = parts.known; short = omega (arith, parts.low, expression_counted (scope_of t d) test) },
+    subst (λ (e : Draft). AreFine t version e (says_all a ++ (else_said (map says b) ++ (said.End ∷ rest)))) (sym (if_open test d)) all)
+
+pub from_lines : (t : Table) (version : ℕ) (c : Stmt) → FromLines t version c
+from_lines t version = every_nested (FromLines t version) (record {
+  let_ = λ reg e. one_from t version (Let reg e) (says-Let reg e) (λ sc. let_line t version sc reg e);
+  if_ = if_from t version;
+  set = λ place x y. one_from t version (Set place x y) (says-Set place x y) (λ sc. set_line t version sc place x y);
+  add = λ place x y. one_from t version (Add place x y) (says-Add place x y) (λ sc. add_line t version sc place x y);
+  wait = λ e. one_from t version (Wait e) (says-Wait e) (λ sc. wait_line t version sc e);
+})
+
+pub to_lines : (t : Table) (version : ℕ) → (version ≡ 1) ⊎ (version ≡ 2) → (c : Stmt) → ToLines t version c
+to_lines t version which = every_nested (ToLines t version) (record {
+  let_ = λ reg e. one_to t version which (Let reg e) (says-Let reg e) (λ sc. let_line t version sc reg e);
+  if_ = if_to t version;
+  set = λ place x y. one_to t version which (Set place x y) (says-Set place x y) (λ sc. set_line t version sc place x y);
+  add = λ place x y. one_to t version which (Add place x y) (says-Add place x y) (λ sc. add_line t version sc place x y);
+  wait = λ e. one_to t version which (Wait e) (says-Wait e) (λ sc. wait_line t version sc e);
+})
