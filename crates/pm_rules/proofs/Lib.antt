@@ -11,3 +11,4 @@ pub mod LinesReadAgain
 pub mod Found
 pub mod WasSpelled
 pub mod LinesWereSpelled
+pub mod ScopesMade

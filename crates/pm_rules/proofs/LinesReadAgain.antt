@@ -113,7 +113,7 @@ add_read sc version d p x y known low =
 does_read : (sc : Scope) (version : ℕ) → IsScope sc → (s : Stmt) → IsReadLine sc version s
 does_read sc version d = every_statement (IsReadLine sc version) (record {
   let_ = let_read sc version d;
-  if_ = λ test first second known low. absurd (if_unsayable sc version test first second known);
+  if_ = λ test first second known low. absurd (if_unsayable sc version test _ _ known);
   set = set_read sc version d;
   add = add_read sc version d;
   wait = wait_read sc version d;

@@ -120,7 +120,7 @@ wait_kept sc regs senses version e known =
 does_kept : (sc : Scope) (regs senses : List (List ℕ)) (version : ℕ) (s : Stmt) → DoesKept sc regs senses version s
 does_kept sc regs senses version = every_statement (DoesKept sc regs senses version) (record {
   let_ = let_kept sc regs senses version;
-  if_ = λ test first second known. absurd (if_unsayable sc version test first second known);
+  if_ = λ test first second known. absurd (if_unsayable sc version test _ _ known);
   set = set_kept sc regs senses version;
   add = add_kept sc regs senses version;
   wait = wait_kept sc regs senses version;

@@ -1,11 +1,12 @@
 //! Laws of spelling and reading, for proofs: each function does nothing, and its contract is the law.
 
-ghost use Rattle.std.specs.Prelude.{◌≡◌, ◌≤◌, List, ℕ, length, ◌++◌, Some, None, true};
-ghost use Rattle.pm_base.specs.Fits.{change_tokens, is_known, place_known, place_tokens, sense_tokens, tokens_of};
+ghost use Rattle.std.specs.Prelude.{◌≡◌, ◌≤◌, ◌^◌, List, ℕ, length, ◌++◌, Some, None, true};
+ghost use Rattle.pm_base.specs.Fits.{change_tokens, is_known, names_fit, place_known, place_tokens, sense_tokens, tokens_of};
 ghost use Rattle.pm_base.specs.declared.program.Expr.{Expr};
 ghost use Rattle.pm_base.specs.declared.program.Place.{Place};
 ghost use Rattle.pm_base.specs.declared.program.Sense.{Sense};
-ghost use Rattle.pm_rules.specs.Reading.{Scope, after, class_rows, expression, is_dot, is_left, place};
+ghost use Rattle.pm_rules.specs.Grammar.{IsTable};
+ghost use Rattle.pm_rules.specs.Reading.{Scope, Table, after, class_rows, expression, is_dot, is_left, place};
 ghost use Rattle.pm_rules.specs.Sayable.{IsScope, extended, is_sayable, known_in};
 ghost use Rattle.pm_rules.specs.Spelling.{spell, spell_change, spell_place, spell_said, spell_sense};
 ghost use Rattle.pm_rules.specs.Statements.{statement};
@@ -54,4 +55,11 @@ pub fn spelled_tokens_are_counted()
     ensures senses { (sc : Scope) (w : List ℕ) (s : Sense) → length (spell_sense sc w s) ≡ sense_tokens s }
     ensures changes { (sc : Scope) (w : List ℕ) (p : Place) (x y : Expr) →
         length (spell_change sc w p x y) ≡ change_tokens p x y }
+{}
+
+/// The names of a rule that fits make a scope with those of a scenario, and so do its first registers and senses.
+pub fn fitting_names_make_a_scope()
+    ensures { (t : Table) (regs senses : List (List ℕ)) →
+        IsTable t → names_fit (regs ++ senses) ≡ true → length regs ≤ 2 ^ 32 → length senses ≤ 2 ^ 32 →
+        IsScope (record { table = t; regs = regs; senses = senses }) }
 {}
