@@ -12,3 +12,4 @@ pub mod Found
 pub mod WasSpelled
 pub mod LinesWereSpelled
 pub mod ScopesMade
+pub mod FittingLines
