@@ -1,5 +1,7 @@
 pub mod BackwardLaws
 pub mod CanonicalLaws
+pub mod FineLaws
+pub mod FittingLines
 pub mod Found
 pub mod IdleLaws
 pub mod KnownParts
@@ -9,13 +11,13 @@ pub mod LinesReadAgain
 pub mod LinesWereSpelled
 pub mod MatchedLaws
 pub mod NamesLaws
+pub mod Nested
 pub mod NestingLaws
 pub mod ReadAgain
 pub mod RowLaws
 pub mod ScopeLaws
+pub mod ScopesMade
 pub mod SpellingCounts
 pub mod SpellingEquations
 pub mod Variants
 pub mod WasSpelled
-pub mod Nested
-pub mod FineLaws

@@ -1,18 +1,17 @@
 -- What is spelled is read: whole lines.
-use Rattle.std.proofs.Common.{◌≡◌, refl, ap, sym, ◌∙◌, arith, ℕ, ◌+◌, ◌≤◌, ◌<◌, Bool, true, false, List, [], ◌∷◌, ◌++◌, length, get_or, nat_lt, ℤ, Some, None, codes}
-use Rattle.std.specs.Prelude.{◌==◌, ◌&&◌}
+use Rattle.std.proofs.Common.{◌≡◌, refl, ap, sym, ◌∙◌, arith, ℕ, ◌≤◌, ◌<◌, true, List, ◌∷◌, ◌++◌, length, ℤ, Some, None, codes}
 use Rattle.pm_base.specs.Fits.{change_known, change_tokens, is_known, sense_known, sense_tokens, tokens_of}
 use Rattle.pm_base.specs.declared.program.Expr.{Expr}
 use Rattle.pm_base.specs.declared.program.Place.{Place}
 use Rattle.pm_base.specs.declared.program.Sense.{Sense}
 use Rattle.pm_base.specs.declared.program.Sense.TheVariants as sense
 use Rattle.pm_base.specs.declared.program.Stmt.{Stmt}
-use Rattle.pm_base.specs.declared.program.Stmt.TheVariants.{Let, If, Set, Add, Wait}
-use Rattle.pm_rules.specs.Reading.{Scope, after, class_names, class_rows, expr, is_comma, is_dot, is_assign, is_left, name_at, number_in, place}
+use Rattle.pm_base.specs.declared.program.Stmt.TheVariants.{Let, Set, Add, Wait}
+use Rattle.pm_rules.specs.Reading.{Scope, after, class_names, class_rows, is_dot, is_left, name_at}
 use Rattle.pm_rules.specs.Sayable.{IsScope, does_sayable, is_sayable, known_in}
-use Rattle.pm_rules.specs.Spelling.{spell, spell_change, spell_does, spell_place, spell_said, spell_sense}
+use Rattle.pm_rules.specs.Spelling.{spell, spell_does, spell_place, spell_said, spell_sense}
 use Rattle.pm_rules.specs.Statements.{add_line, after_word, assigned, change, declared, if_line, is_free, let_line, number_at, only, read_line, reg_line, scan_line, set_line, statement, two, wait_line, window}
-use Rattle.pm_rules.specs.Tokens.{Tok, name, number, symbol}
+use Rattle.pm_rules.specs.Tokens.{Tok, symbol}
 use Rattle.pm_rules.specs.declared.said.Said.{Said}
 use Rattle.pm_rules.specs.declared.said.Said.TheVariants as said
 use Rattle.pm_rules.specs.declared.token.Symbol.TheVariants as symbols
@@ -20,7 +19,7 @@ use Rattle.pm_rules.proofs.KnownParts.{add_parts, below, both, change_parts, if_
 use Rattle.pm_rules.proofs.ReadAgain.{begins_alone_without_dot, begins_without_dot, expression_alone, expression_read, number_again, place_alone, place_read, same_length}
 use Rattle.pm_rules.proofs.SpellingCounts.{change_counted, expression_counted, sense_counted}
 use Rattle.pm_rules.proofs.SpellingEquations.{does-Let, does-Set, does-Add, does-Wait, sayable-Set, sayable-Wait}
-use Rattle.pm_rules.proofs.Variants.{OfEachStmt, every_statement}
+use Rattle.pm_rules.proofs.Variants.{every_statement}
 
 reg_read : (sc : Scope) (version : ℕ) (w : List ℕ) (z : ℤ) → is_free w ≡ true → statement sc version (spell_said sc (said.Reg w z)) ≡ Some (said.Reg w z, true)
 unfolding statement after_word reg_line declared name_at number_at
@@ -114,7 +113,7 @@ add_read sc version d p x y known low =
 does_read : (sc : Scope) (version : ℕ) → IsScope sc → (s : Stmt) → IsReadLine sc version s
 does_read sc version d = every_statement (IsReadLine sc version) (record {
   let_ = let_read sc version d;
-  if_ = λ test first second known low. absurd (if_unsayable sc version test first second known);
+  if_ = λ test first second known low. absurd (if_unsayable sc version test _ _ known);
   set = set_read sc version d;
   add = add_read sc version d;
   wait = wait_read sc version d;

@@ -1,5 +1,5 @@
 -- What is read was spelled: whole lines.
-use Rattle.std.proofs.Common.{◌≡◌, refl, ap, sym, ◌∙◌, subst, ℕ, Bool, true, false, List, [], ◌∷◌, ◌++◌, length, nat_lt, ℤ, Some, None, append_assoc, append-nil, codes}
+use Rattle.std.proofs.Common.{◌≡◌, refl, ap, sym, ◌∙◌, subst, ℕ, Bool, true, List, [], ◌∷◌, ◌++◌, length, nat_lt, Some, append_assoc, append-nil, codes}
 use Rattle.std.specs.Prelude.{◌==◌, ◌&&◌}
 use Rattle.std.specs.Str.{bytes_eq}
 use Rattle.std.proofs.lemmas.Option.{same_Some}
@@ -8,7 +8,7 @@ use Rattle.pm_base.specs.declared.program.Expr.{Expr}
 use Rattle.pm_base.specs.declared.program.Place.{Place}
 use Rattle.pm_base.specs.declared.program.Sense.{Sense}
 use Rattle.pm_base.specs.declared.program.Sense.TheVariants as sense
-use Rattle.pm_base.specs.declared.program.Stmt.TheVariants.{Let, Set, Add, Wait}
+use Rattle.pm_base.specs.declared.program.Stmt.TheVariants.{Let}
 use Rattle.pm_rules.specs.Reading.{Found, Scope, after, class_names, class_rows, expr, is_assign, is_comma, name_at, number_in, place}
 use Rattle.pm_rules.specs.Sayable.{is_sayable, known_in}
 use Rattle.pm_rules.specs.Spelling.{spell, spell_change, spell_place, spell_said, spell_sense}

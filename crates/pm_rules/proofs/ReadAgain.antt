@@ -1,6 +1,6 @@
 -- What is spelled is read: expressions and places.
-use Rattle.std.proofs.Common.{◌≡◌, refl, ap, sym, ◌∙◌, subst, arith, ℕ, zero, suc, ◌+◌, ◌≤◌, ◌<◌, Bool, true, false, List, [], ◌∷◌, ◌++◌, length, get_or, nat_lt, ℤ, Some, None, append_assoc, append-nil, codes}
-use Rattle.std.specs.Prelude.{not, map, ◌&&◌}
+use Rattle.std.proofs.Common.{◌≡◌, refl, ap, sym, ◌∙◌, subst, arith, ℕ, zero, suc, ◌≤◌, ◌<◌, Bool, true, false, List, [], ◌∷◌, ◌++◌, length, get_or, nat_lt, ℤ, Some, None, append_assoc, append-nil, codes}
+use Rattle.std.specs.Prelude.{not}
 use Rattle.std.specs.Str.{bytes_eq}
 use Rattle.std.proofs.lemmas.Grind.{common_steps}
 use Rattle.std.proofs.lemmas.List.{length-map}
@@ -21,11 +21,11 @@ use Rattle.pm_rules.specs.Reading.{Scope, Table, after, class_names, class_rows,
 use Rattle.pm_rules.specs.Sayable.{IsScope, known_in}
 use Rattle.pm_rules.specs.Spelling.{field_word, op_token, spell, spell_place}
 use Rattle.pm_rules.specs.Statements.{is_free}
-use Rattle.pm_rules.specs.Tokens.{Tok, name, number, symbol}
+use Rattle.pm_rules.specs.Tokens.{Tok, name, symbol}
 use Rattle.pm_rules.specs.declared.token.Symbol.TheVariants as symbols
 use Rattle.pm_rules.proofs.KnownParts.{below, bin_parts, both, member_parts}
 use Rattle.pm_rules.proofs.SpellingEquations.{spell-Num, spell-Now, spell-Me, spell-Reg, spell-Part, spell-Bin, known-Reg, known-Part, tokens-Num, tokens-Now, tokens-Me, tokens-Reg, tokens-Part, tokens-Bin}
-use Rattle.pm_rules.proofs.Variants.{OfEach, every_expression}
+use Rattle.pm_rules.proofs.Variants.{every_expression}
 
 operator_again : (o : Op) (ts : List Tok) → operator (op_token o ∷ ts) ≡ Some (o, ts)
 unfolding operator

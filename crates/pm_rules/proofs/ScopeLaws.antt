@@ -1,11 +1,9 @@
 -- What is spelled in a scope is spelled so in every scope that has more behind.
-use Rattle.std.proofs.Common.{◌≡◌, refl, ap, sym, ◌∙◌, arith, ℕ, ◌<◌, Bool, true, false, List, [], ◌∷◌, ◌++◌, length, get_or, nat_lt, ℤ, codes}
-use Rattle.std.specs.Prelude.{◌&&◌, ◌==◌}
-use Rattle.std.proofs.lemmas.Bool.Decides.{nat_tests}
+use Rattle.std.proofs.Common.{◌≡◌, refl, sym, ◌∙◌, ℕ, true, List, [], ◌++◌, length, get_or, nat_lt, codes}
 use Rattle.std.proofs.lemmas.List.{get_or_append_left}
 use Rattle.pm_base.specs.Fits.{change_known, is_known, place_known, sense_known}
 use Rattle.pm_base.specs.declared.program.Expr.{Expr}
-use Rattle.pm_base.specs.declared.program.Expr.TheVariants.{Num, Now, Me, Reg, Part, Bin}
+use Rattle.pm_base.specs.declared.program.Expr.TheVariants.{Reg, Part, Bin}
 use Rattle.pm_base.specs.declared.program.Field.{Field}
 use Rattle.pm_base.specs.declared.program.Op.{Op}
 use Rattle.pm_base.specs.declared.program.Place.{Place}
@@ -13,16 +11,16 @@ use Rattle.pm_base.specs.declared.program.Place.TheVariants.{Var, Member}
 use Rattle.pm_base.specs.declared.program.Sense.{Sense}
 use Rattle.pm_base.specs.declared.program.Sense.TheVariants as sense
 use Rattle.pm_base.specs.declared.program.Stmt.{Stmt}
-use Rattle.pm_base.specs.declared.program.Stmt.TheVariants.{Let, If, Set, Add, Wait}
+use Rattle.pm_base.specs.declared.program.Stmt.TheVariants.{Let, Set, Add, Wait}
 use Rattle.pm_rules.specs.Reading.{Scope, class_rows}
 use Rattle.pm_rules.specs.Sayable.{does_sayable, extended, is_sayable, known_in}
-use Rattle.pm_rules.specs.Spelling.{op_token, spell, spell_change, spell_does, spell_place, spell_said, spell_sense}
+use Rattle.pm_rules.specs.Spelling.{spell, spell_change, spell_does, spell_place, spell_said, spell_sense}
 use Rattle.pm_rules.specs.Statements.{is_free}
 use Rattle.pm_rules.specs.declared.said.Said.{Said}
 use Rattle.pm_rules.specs.declared.said.Said.TheVariants as said
-use Rattle.pm_rules.proofs.SpellingEquations.{spell-Num, spell-Now, spell-Me, spell-Reg, spell-Part, spell-Bin, known-Reg, known-Part, known-Bin, does-Let, does-Set, does-Add, does-Wait, sayable-Let, sayable-If, sayable-Set, sayable-Add, sayable-Wait}
+use Rattle.pm_rules.proofs.SpellingEquations.{spell-Num, spell-Now, spell-Me, spell-Reg, spell-Part, spell-Bin, known-Reg, known-Part, does-Let, does-Set, does-Add, does-Wait, sayable-Set, sayable-Wait}
 use Rattle.pm_rules.proofs.KnownParts.{add_parts, below, bin_parts, both, change_parts, if_unsayable, let_parts, member_parts, scan_parts}
-use Rattle.pm_rules.proofs.Variants.{OfEach, OfEachStmt, every_expression, every_statement}
+use Rattle.pm_rules.proofs.Variants.{every_expression, every_statement}
 
 name_kept : (names more : List (List ℕ)) (k : ℕ) → nat_lt k (length names) ≡ true → get_or (names ++ more) k [] ≡ get_or names k []
 name_kept names more k e = get_or_append_left names more [] k (below k (length names) e)
@@ -122,7 +120,7 @@ wait_kept sc regs senses version e known =
 does_kept : (sc : Scope) (regs senses : List (List ℕ)) (version : ℕ) (s : Stmt) → DoesKept sc regs senses version s
 does_kept sc regs senses version = every_statement (DoesKept sc regs senses version) (record {
   let_ = let_kept sc regs senses version;
-  if_ = λ test first second known. absurd (if_unsayable sc version test first second known);
+  if_ = λ test first second known. absurd (if_unsayable sc version test _ _ known);
   set = set_kept sc regs senses version;
   add = add_kept sc regs senses version;
   wait = wait_kept sc regs senses version;

@@ -1,8 +1,8 @@
 -- A line is spelled in as many tokens as are counted.
-use Rattle.std.proofs.Common.{◌≡◌, refl, ap, arith, ℕ, ◌+◌, List, [], ◌∷◌, ◌++◌, length, length-append}
+use Rattle.std.proofs.Common.{◌≡◌, refl, ap, arith, ℕ, List, [], ◌∷◌, ◌++◌, length, length-append}
 use Rattle.pm_base.specs.Fits.{change_tokens, place_tokens, sense_tokens, tokens_of}
 use Rattle.pm_base.specs.declared.program.Expr.{Expr}
-use Rattle.pm_base.specs.declared.program.Expr.TheVariants.{Num, Now, Me, Reg, Part, Bin}
+use Rattle.pm_base.specs.declared.program.Expr.TheVariants.{Bin}
 use Rattle.pm_base.specs.declared.program.Op.{Op}
 use Rattle.pm_base.specs.declared.program.Place.{Place}
 use Rattle.pm_base.specs.declared.program.Place.TheVariants.{Var, Member}
@@ -13,7 +13,7 @@ use Rattle.pm_rules.specs.Spelling.{op_token, spell, spell_change, spell_place, 
 use Rattle.pm_rules.specs.Tokens.{Tok, symbol}
 use Rattle.pm_rules.specs.declared.token.Symbol.TheVariants as symbols
 use Rattle.pm_rules.proofs.SpellingEquations.{spell-Num, spell-Now, spell-Me, spell-Reg, spell-Part, spell-Bin, tokens-Num, tokens-Now, tokens-Me, tokens-Reg, tokens-Part, tokens-Bin}
-use Rattle.pm_rules.proofs.Variants.{OfEach, every_expression}
+use Rattle.pm_rules.proofs.Variants.{every_expression}
 
 abbrev IsCounted : Scope → Expr → Type 0
 IsCounted sc e = length (spell sc e) ≡ tokens_of e

@@ -1,5 +1,5 @@
 -- What the definitions give at each variant.
-use Rattle.std.proofs.Common.{◌≡◌, refl, rules, ℕ, ◌+◌, Bool, true, false, List, [], ◌∷◌, ◌++◌, length, ℤ, nat_lt, codes}
+use Rattle.std.proofs.Common.{◌≡◌, rules, ℕ, ◌+◌, true, false, List, [], ◌∷◌, ◌++◌, length, ℤ, nat_lt, codes}
 use Rattle.std.specs.Prelude.{◌==◌, ◌&&◌}
 use Rattle.pm_base.specs.Fits.{change_known, is_known, tokens_of}
 use Rattle.pm_base.specs.declared.fits.Known.{Known}
@@ -13,7 +13,7 @@ use Rattle.pm_base.specs.declared.program.Stmt.TheVariants.{Let, If, Set, Add, W
 use Rattle.pm_rules.specs.Reading.{Scope, class_rows}
 use Rattle.pm_rules.specs.Sayable.{known_in, does_sayable}
 use Rattle.pm_rules.specs.Spelling.{field_word, name_in, op_token, spell, spell_change, spell_does}
-use Rattle.pm_rules.specs.Tokens.{Tok, name, number, symbol}
+use Rattle.pm_rules.specs.Tokens.{name, number, symbol}
 use Rattle.pm_rules.specs.declared.token.Symbol.TheVariants as symbols
 
 pub spell-Num : (sc : Scope) (z : ℤ) → spell sc (Num z) ≡ number z ∷ []

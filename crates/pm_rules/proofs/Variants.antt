@@ -38,10 +38,17 @@ cases P each (Expr-F.Bin o a b) = again P _ (Bin o a.0 b.0) (rolls-Bin o a.0 b.0
 pub every_expression : (P : Expr → Type 0) → OfEach P → (e : Expr) → P e
 every_expression P each = ind-Expr P (λ x y is. subst (λ (z : Expr-F Expr). P (roll-Expr z)) is (cases P each y))
 
--- what a law of one statement needs, the laws of those inside it aside
+-- a statement of which the law holds
+abbrev pub Holding : (Stmt → Type 0) → Type 0
+Holding P = (s : Stmt) × P s
+
+abbrev pub those : (P : Stmt → Type 0) → List (Holding P) → List Stmt
+those P hs = map (λ (h : Holding P). h.0) hs
+
+-- what a law of statements needs
 pub record OfEachStmt (P : Stmt → Type 0) : Type 0 where
   pub let_ : (reg : ℕ) (e : Expr) → P (Let reg e)
-  pub if_ : (test : Expr) (first second : List Stmt) → P (If test first second)
+  pub if_ : (test : Expr) (first second : List (Holding P)) → P (If test (those P first) (those P second))
   pub set : (place : Place) (x y : Expr) → P (Set place x y)
   pub add : (place : Place) (x y : Expr) → P (Add place x y)
   pub wait : (e : Expr) → P (Wait e)
@@ -49,11 +56,10 @@ pub record OfEachStmt (P : Stmt → Type 0) : Type 0 where
 stmt_again : (P : Stmt → Type 0) (x : Stmt-F Stmt) (s : Stmt) → roll-Stmt x ≡ s → P s → P (roll-Stmt x)
 stmt_again P x s is h = subst P (sym is) h
 
-stmt_cases : (P : Stmt → Type 0) → OfEachStmt P → (y : Stmt-F ((s : Stmt) × P s)) → P (roll-Stmt (map-Stmt ((s : Stmt) × P s) Stmt (λ s. s.0) y))
+stmt_cases : (P : Stmt → Type 0) → OfEachStmt P → (y : Stmt-F (Holding P)) → P (roll-Stmt (map-Stmt (Holding P) Stmt (λ h. h.0) y))
 stmt_cases P each (Stmt-F.Let reg e) = stmt_again P _ (Let reg e) (rolls-Let reg e) (each.let_ reg e)
 stmt_cases P each (Stmt-F.If test first second) =
-    stmt_again P _ (If test (map (λ s. s.0) first) (map (λ s. s.0) second)) (rolls-If test (map (λ s. s.0) first) (map (λ s. s.0) second))
-    (each.if_ test (map (λ s. s.0) first) (map (λ s. s.0) second))
+    stmt_again P _ (If test (those P first) (those P second)) (rolls-If test (those P first) (those P second)) (each.if_ test first second)
 stmt_cases P each (Stmt-F.Set place x y) = stmt_again P _ (Set place x y) (rolls-Set place x y) (each.set place x y)
 stmt_cases P each (Stmt-F.Add place x y) = stmt_again P _ (Add place x y) (rolls-Add place x y) (each.add place x y)
 stmt_cases P each (Stmt-F.Wait e) = stmt_again P _ (Wait e) (rolls-Wait e) (each.wait e)

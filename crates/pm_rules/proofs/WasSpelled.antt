@@ -1,21 +1,20 @@
 -- What is read was spelled: expressions and places.
-use Rattle.std.proofs.Common.{◌≡◌, refl, ap, sym, ◌∙◌, subst, ℕ, zero, suc, Bool, true, false, List, [], ◌∷◌, ◌++◌, length, get_or, nat_lt, ℤ, Option, Some, None, append_assoc, codes}
+use Rattle.std.proofs.Common.{◌≡◌, refl, ap, sym, ◌∙◌, subst, ℕ, zero, suc, Bool, true, List, [], ◌∷◌, ◌++◌, Option, Some, None, append_assoc, codes}
 use Rattle.std.specs.Prelude.{◌&&◌}
 use Rattle.std.specs.Str.{bytes_eq}
 use Rattle.std.proofs.lemmas.Option.{same_Some}
 use Rattle.pm_base.specs.Fits.{is_known, place_known}
 use Rattle.pm_base.specs.Names.{is_reserved}
 use Rattle.pm_base.specs.declared.program.Expr.{Expr}
-use Rattle.pm_base.specs.declared.program.Expr.TheVariants.{Num, Now, Me, Reg, Part, Bin}
+use Rattle.pm_base.specs.declared.program.Expr.TheVariants.{Num, Now, Me, Part, Bin}
 use Rattle.pm_base.specs.declared.program.Field.{Field}
 use Rattle.pm_base.specs.declared.program.Op.{Op}
 use Rattle.pm_base.specs.declared.program.Place.{Place}
-use Rattle.pm_base.specs.declared.program.Place.TheVariants.{Var, Member}
+use Rattle.pm_base.specs.declared.program.Place.TheVariants.{Member}
 use Rattle.pm_rules.specs.Reading.{Found, Scope, after, bracketed, class_names, class_rows, closed, dotted, expr, expression, field_at, has_members, indexed, is_close, is_dot, is_left, is_open, is_right, joined, member_at, name_at, named, number_in, operator, part, place, register, variable}
 use Rattle.pm_rules.specs.Sayable.{known_in}
 use Rattle.pm_rules.specs.Spelling.{field_word, op_token, spell, spell_place}
 use Rattle.pm_rules.specs.Tokens.{Tok, name, number, symbol}
-use Rattle.pm_rules.specs.declared.token.Symbol.{Symbol}
 use Rattle.pm_rules.specs.declared.token.Symbol.TheVariants as symbols
 use Rattle.pm_rules.proofs.Found.{IsNumberIn, bind_ok, branch, close_found, dot_found, field_found, left_found, name_found, none, number_in_found, only_open, operator_found, right_found, same_text}
 use Rattle.pm_rules.proofs.KnownParts.{both}

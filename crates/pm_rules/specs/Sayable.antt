@@ -1,12 +1,13 @@
 -- What a line may say in a scope: the names that it uses are there, and the one that it declares may be declared.
-use Rattle.std.specs.Prelude.{◌≡◌, ℕ, ◌==◌, ◌<◌, Bool, true, false, ◌&&◌, nat_lt, List, [], ◌++◌, get_or, length}
-use Rattle.pm_base.specs.Fits.{change_known, is_known, sense_known}
+use Rattle.std.specs.Prelude.{◌≡◌, ℕ, ◌==◌, ◌<◌, Bool, true, false, ◌&&◌, ◌||◌, nat_lt, List, [], ◌∷◌, ◌++◌, get_or, length, map}
+use Rattle.pm_base.specs.Fits.{all_true, change_known, in_line, is_known, sense_known}
 use Rattle.pm_base.specs.declared.fits.Known.{Known}
 use Rattle.pm_base.specs.declared.program.Stmt.{Stmt}
 use Rattle.pm_base.specs.declared.program.Stmt.TheFolds.{fold-Stmt}
 use Rattle.pm_base.specs.declared.program.Stmt.TheOpen.{Stmt-F}
-use Rattle.pm_rules.specs.Grammar.{AreDistinct}
+use Rattle.pm_rules.specs.Grammar.{AreDistinct, is_plain}
 use Rattle.pm_rules.specs.Reading.{Scope, class_names, class_rows}
+use Rattle.pm_rules.specs.Spelling.{spell_said}
 use Rattle.pm_rules.specs.Statements.{is_free}
 use Rattle.pm_rules.specs.declared.said.Said.{Said}
 use Rattle.pm_rules.specs.declared.said.Said.TheVariants as said
@@ -49,3 +50,15 @@ pub record IsScope (sc : Scope) : Type 0 where
 -- a scope with more registers and senses behind those that it has
 abbrev pub extended : Scope → List (List ℕ) → List (List ℕ) → Scope
 extended sc regs senses = record { table = sc.table; regs = sc.regs ++ regs; senses = sc.senses ++ senses }
+
+-- each line may be said, in at most 64 tokens
+abbrev pub lines_fit : Scope → ℕ → List Said → Bool
+lines_fit sc version [] = true
+lines_fit sc version (s ∷ ss) = (in_line (length (spell_said sc s)) && is_sayable sc version s) && lines_fit sc version ss
+
+-- a statement of that version: version 1 has no `add`
+abbrev pub is_of_version : ℕ → Stmt → Bool
+is_of_version version s = version == 2 || is_plain s
+
+abbrev pub are_of_version : ℕ → List Stmt → Bool
+are_of_version version stmts = version == 2 || all_true (map is_plain stmts)

@@ -1,0 +1,5 @@
+use Rattle.pm_rules.proofs.ScopesMade.{scope_made}
+use Rattle.pm_rules.proofs.spelling_laws.fitting_names_make_a_scope.Goals as goal
+
+pub returns : goal.returns
+returns c = scope_made
