@@ -11,8 +11,7 @@ use Rattle.pm_rules.specs.Grammar.{drops_else, without_idle_else}
 use Rattle.pm_rules.specs.Spelling.{else_said, program_says, reg_said, says, says_all, sense_said}
 use Rattle.pm_rules.specs.declared.said.Said.{Said}
 use Rattle.pm_rules.specs.declared.said.Said.TheVariants as said
-use Rattle.pm_rules.proofs.Nested.{every_nested}
-use Rattle.pm_rules.proofs.Variants.{every_statement}
+use Rattle.pm_rules.proofs.Variants.{every_statement, those}
 use Rattle.pm_rules.proofs.NestingLaws.{says-Let, says-If, says-Set, says-Add, says-Wait}
 
 -- an `else` before the lines of a statement stays
@@ -28,7 +27,7 @@ keeps_if test first second rest = rw (says-If test first second) refl
 keeps_else : (c : Stmt) → KeepsElse c
 keeps_else = every_statement KeepsElse (record {
   let_ = λ reg e. keeps_does (Let reg e) (says-Let reg e);
-  if_ = keeps_if;
+  if_ = λ test first second. keeps_if test (those KeepsElse first) (those KeepsElse second);
   set = λ place x y. keeps_does (Set place x y) (says-Set place x y);
   add = λ place x y. keeps_does (Add place x y) (says-Add place x y);
   wait = λ e. keeps_does (Wait e) (says-Wait e);
@@ -73,7 +72,7 @@ if_canonical test first second rest =
     ∙ sym (append_assoc a (b ++ said.End ∷ []) (without_idle_else rest))))
 
 canonical : (c : Stmt) → IsCanonical c
-canonical = every_nested IsCanonical (record {
+canonical = every_statement IsCanonical (record {
   let_ = λ reg e. one_canonical (Let reg e) (says-Let reg e);
   if_ = if_canonical;
   set = λ place x y. one_canonical (Set place x y) (says-Set place x y);

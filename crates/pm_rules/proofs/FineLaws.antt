@@ -1,7 +1,7 @@
 -- The lines of statements are fine where the statements fit.
-use Rattle.std.proofs.Common.{◌≡◌, ◌∙◌, ap, refl, sym, subst, arith, rules, ℕ, suc, zero, ◌+◌, ◌≤◌, ◌<◌, Bool, true, false, List, [], ◌∷◌, ◌++◌, Option, Some, None, length, nat_lt, append_assoc, inl, inr, ◌⊎◌}
+use Rattle.std.proofs.Common.{◌≡◌, ◌∙◌, ap, refl, sym, subst, arith, rules, ℕ, ◌+◌, ◌≤◌, Bool, true, false, List, [], ◌∷◌, ◌++◌, Option, Some, None, length, nat_lt, append_assoc, inl, inr, ◌⊎◌}
 use Rattle.std.specs.List.{AllByRecursion}
-use Rattle.std.specs.Prelude.{codes, map, max, not, nat_le, ◌&&◌, ◌==◌}
+use Rattle.std.specs.Prelude.{codes, map, max, nat_le, ◌&&◌, ◌==◌}
 use Rattle.std.proofs.lemmas.Bool.Decides.{nat_tests}
 use Rattle.std.proofs.lemmas.List.{append-nil, length-append}
 use Rattle.pm_base.specs.Fits.{all_true, change_known, change_tokens, depth_of, greatest, in_line, is_known, stmt_fits, tokens_of}
@@ -15,8 +15,8 @@ use Rattle.pm_rules.specs.Grammar.{is_plain}
 use Rattle.pm_rules.specs.Nesting.{AreFine, IsFine, IsGood, is_taken}
 use Rattle.pm_rules.specs.Reading.{Scope, Table, class_rows}
 use Rattle.pm_rules.specs.Rules.{is_empty, scope_of, with_said}
-use Rattle.pm_rules.specs.Sayable.{does_sayable, is_sayable, known_in}
-use Rattle.pm_rules.specs.Spelling.{else_said, says, says_all, spell, spell_does, spell_said}
+use Rattle.pm_rules.specs.Sayable.{does_sayable, known_in}
+use Rattle.pm_rules.specs.Spelling.{else_said, says, says_all, spell_does}
 use Rattle.pm_rules.specs.Tokens.{Tok}
 use Rattle.pm_rules.specs.declared.draft.Draft.{Draft}
 use Rattle.pm_rules.specs.declared.draft.Frame.{Frame}
@@ -24,7 +24,7 @@ use Rattle.pm_rules.specs.declared.said.Said.{Said}
 use Rattle.pm_rules.specs.declared.said.Said.TheVariants as said
 use Rattle.pm_rules.proofs.BackwardLaws.{both}
 use Rattle.pm_rules.proofs.IdleLaws.{taken_parts}
-use Rattle.pm_rules.proofs.Nested.{Proved, every_nested, stmts}
+use Rattle.pm_rules.proofs.Variants.{Holding, every_statement, those}
 use Rattle.pm_rules.proofs.NestingLaws.{else_first, end_first, end_second, if_open, inside, last_frame-append, says-Add, says-If, says-Let, says-Set, says-Wait, with_body}
 use Rattle.pm_rules.proofs.SpellingCounts.{change_counted, expression_counted}
 use Rattle.pm_rules.proofs.SpellingEquations.{does-Add, does-Let, does-Set, does-Wait, sayable-Add, sayable-Let, sayable-Set, sayable-Wait}
@@ -203,23 +203,23 @@ with_none d = ap (λ (b : List Stmt). record d { body = b }) (append-nil d.body)
 with_more : (c : Stmt) (cs : List Stmt) (d : Draft) → with_body cs (with_body (c ∷ []) d) ≡ with_body (c ∷ cs) d
 with_more c cs d = ap (λ (b : List Stmt). record d { body = b }) (append_assoc d.body (c ∷ []) cs)
 
-list_from : (t : Table) (version : ℕ) (cs : Proved (FromLines t version)) (d : Draft) (rest : List Said) → depth d ≤ 8 →
-    AreFine t version d (says_all (stmts (FromLines t version) cs) ++ rest) →
-    AllGood t version d (stmts (FromLines t version) cs) × AreFine t version (with_body (stmts (FromLines t version) cs) d) rest
+list_from : (t : Table) (version : ℕ) (cs : List (Holding (FromLines t version))) (d : Draft) (rest : List Said) → depth d ≤ 8 →
+    AreFine t version d (says_all (those (FromLines t version) cs) ++ rest) →
+    AllGood t version d (those (FromLines t version) cs) × AreFine t version (with_body (those (FromLines t version) cs) d) rest
 list_from t version [] d rest few fine = (tt, subst (λ (e : Draft). AreFine t version e rest) (sym (with_none d)) fine)
 list_from t version (c ∷ cs) d rest few fine =
-    let more = says_all (stmts (FromLines t version) cs) in
+    let more = says_all (those (FromLines t version) cs) in
     let first = c.1 d (more ++ rest) few (subst (AreFine t version d) (append_assoc (says c.0) more rest) fine) in
     let others = list_from t version cs (with_body (c.0 ∷ []) d) rest few first.1 in
-    ((first.0, others.0), subst (λ (e : Draft). AreFine t version e rest) (with_more c.0 (stmts (FromLines t version) cs) d) others.1)
+    ((first.0, others.0), subst (λ (e : Draft). AreFine t version e rest) (with_more c.0 (those (FromLines t version) cs) d) others.1)
 
-list_to : (t : Table) (version : ℕ) (cs : Proved (ToLines t version)) (d : Draft) (rest : List Said) → AllGood t version d (stmts (ToLines t version) cs) →
-    AreFine t version (with_body (stmts (ToLines t version) cs) d) rest → AreFine t version d (says_all (stmts (ToLines t version) cs) ++ rest)
+list_to : (t : Table) (version : ℕ) (cs : List (Holding (ToLines t version))) (d : Draft) (rest : List Said) → AllGood t version d (those (ToLines t version) cs) →
+    AreFine t version (with_body (those (ToLines t version) cs) d) rest → AreFine t version d (says_all (those (ToLines t version) cs) ++ rest)
 list_to t version [] d rest good more = subst (λ (e : Draft). AreFine t version e rest) (with_none d) more
 list_to t version (c ∷ cs) d rest good more =
-    let lines = says_all (stmts (ToLines t version) cs) in
+    let lines = says_all (those (ToLines t version) cs) in
     let others = list_to t version cs (with_body (c.0 ∷ []) d) rest good.1
-    (subst (λ (e : Draft). AreFine t version e rest) (sym (with_more c.0 (stmts (ToLines t version) cs) d)) more) in
+    (subst (λ (e : Draft). AreFine t version e rest) (sym (with_more c.0 (those (ToLines t version) cs) d)) more) in
     subst (AreFine t version d) (sym (append_assoc (says c.0) lines rest)) (c.1 d (lines ++ rest) good.0 others)
 
 -- statements that fit, one by one and together
@@ -327,39 +327,39 @@ else_fine t version test body d = record {
 }
 
 -- the lines behind the first list of an `if`
-tail_from : (t : Table) (version : ℕ) (test : Expr) (a : List Stmt) (second : Proved (FromLines t version)) (d : Draft) (rest : List Said) → depth d + 1 ≤ 8 →
-    AreFine t version (inside test None a d) (else_said (map says (stmts (FromLines t version) second)) ++ (said.End ∷ rest)) →
-    AreGood t version (known_in (scope_of t d)) (depth d + 1) (stmts (FromLines t version) second)
-    × AreFine t version (with_body (If test a (stmts (FromLines t version) second) ∷ []) d) rest
+tail_from : (t : Table) (version : ℕ) (test : Expr) (a : List Stmt) (second : List (Holding (FromLines t version))) (d : Draft) (rest : List Said) → depth d + 1 ≤ 8 →
+    AreFine t version (inside test None a d) (else_said (map says (those (FromLines t version) second)) ++ (said.End ∷ rest)) →
+    AreGood t version (known_in (scope_of t d)) (depth d + 1) (those (FromLines t version) second)
+    × AreFine t version (with_body (If test a (those (FromLines t version) second) ∷ []) d) rest
 tail_from t version test a [] d rest few fine = (tt, subst (λ (e : Draft). AreFine t version e rest) (end_first test a d) fine.1)
 tail_from t version test a (c ∷ cs) d rest few fine =
     let frame : Frame = record { test = test; first = Some a; outer = d.body } in
-    let b = stmts (FromLines t version) (c ∷ cs) in
+    let b = those (FromLines t version) (c ∷ cs) in
     let lists = list_from t version (c ∷ cs) (inside test (Some a) [] d) (said.End ∷ rest) (omega (arith, few, deeper d frame))
     (subst (λ (e : Draft). AreFine t version e (says_all b ++ (said.End ∷ rest))) (else_first test a d) fine.1) in
     (subst (λ (n : ℕ). AreGood t version (known_in (scope_of t d)) n b) (deeper d frame) lists.0,
     subst (λ (e : Draft). AreFine t version e rest) (end_second test a b d) lists.1.1)
 
-tail_to : (t : Table) (version : ℕ) (test : Expr) (a : List Stmt) (second : Proved (ToLines t version)) (d : Draft) (rest : List Said) →
-    AreGood t version (known_in (scope_of t d)) (depth d + 1) (stmts (ToLines t version) second) →
-    AreFine t version (with_body (If test a (stmts (ToLines t version) second) ∷ []) d) rest →
-    AreFine t version (inside test None a d) (else_said (map says (stmts (ToLines t version) second)) ++ (said.End ∷ rest))
+tail_to : (t : Table) (version : ℕ) (test : Expr) (a : List Stmt) (second : List (Holding (ToLines t version))) (d : Draft) (rest : List Said) →
+    AreGood t version (known_in (scope_of t d)) (depth d + 1) (those (ToLines t version) second) →
+    AreFine t version (with_body (If test a (those (ToLines t version) second) ∷ []) d) rest →
+    AreFine t version (inside test None a d) (else_said (map says (those (ToLines t version) second)) ++ (said.End ∷ rest))
 tail_to t version test a [] d rest good more =
     (end_fine t version test None a d, subst (λ (e : Draft). AreFine t version e rest) (sym (end_first test a d)) more)
 tail_to t version test a (c ∷ cs) d rest good more =
     let frame : Frame = record { test = test; first = Some a; outer = d.body } in
-    let b = stmts (ToLines t version) (c ∷ cs) in
+    let b = those (ToLines t version) (c ∷ cs) in
     (else_fine t version test a d,
     subst (λ (e : Draft). AreFine t version e (says_all b ++ (said.End ∷ rest))) (sym (else_first test a d))
     (list_to t version (c ∷ cs) (inside test (Some a) [] d) (said.End ∷ rest)
     (subst (λ (n : ℕ). AreGood t version (known_in (scope_of t d)) n b) (sym (deeper d frame)) good)
     (end_fine t version test (Some a) b d, subst (λ (e : Draft). AreFine t version e rest) (sym (end_second test a b d)) more)))
 
-if_from : (t : Table) (version : ℕ) (test : Expr) (first second : Proved (FromLines t version)) →
-    FromLines t version (If test (stmts (FromLines t version) first) (stmts (FromLines t version) second))
+if_from : (t : Table) (version : ℕ) (test : Expr) (first second : List (Holding (FromLines t version))) →
+    FromLines t version (If test (those (FromLines t version) first) (those (FromLines t version) second))
 if_from t version test first second d rest few fine =
-    let a = stmts (FromLines t version) first in
-    let b = stmts (FromLines t version) second in
+    let a = those (FromLines t version) first in
+    let b = those (FromLines t version) second in
     let frame : Frame = record { test = test; first = None; outer = d.body } in
     let lines = says-If test a b in
     let all : AreFine t version d (said.If test ∷ (says_all a ++ (else_said (map says b) ++ (said.End ∷ rest)))) =
@@ -372,11 +372,11 @@ if_from t version test first second d rest few fine =
     (subst (λ (n : ℕ). AreGood t version (known_in (scope_of t d)) n a) (deeper d frame) lists.0) tail.0,
     tail.1)
 
-if_to : (t : Table) (version : ℕ) (test : Expr) (first second : Proved (ToLines t version)) →
-    ToLines t version (If test (stmts (ToLines t version) first) (stmts (ToLines t version) second))
+if_to : (t : Table) (version : ℕ) (test : Expr) (first second : List (Holding (ToLines t version))) →
+    ToLines t version (If test (those (ToLines t version) first) (those (ToLines t version) second))
 if_to t version test first second d rest good more =
-    let a = stmts (ToLines t version) first in
-    let b = stmts (ToLines t version) second in
+    let a = those (ToLines t version) first in
+    let b = those (ToLines t version) second in
     let frame : Frame = record { test = test; first = None; outer = d.body } in
     let parts = if_parts t version (known_in (scope_of t d)) (depth d) test a b good in
     let lines = tail_to t version test a second d rest parts.second more in
@@ -387,7 +387,7 @@ if_to t version test first second d rest good more =
     subst (λ (e : Draft). AreFine t version e (says_all a ++ (else_said (map says b) ++ (said.End ∷ rest)))) (sym (if_open test d)) all)
 
 pub from_lines : (t : Table) (version : ℕ) (c : Stmt) → FromLines t version c
-from_lines t version = every_nested (FromLines t version) (record {
+from_lines t version = every_statement (FromLines t version) (record {
   let_ = λ reg e. one_from t version (Let reg e) (says-Let reg e) (λ sc. let_line t version sc reg e);
   if_ = if_from t version;
   set = λ place x y. one_from t version (Set place x y) (says-Set place x y) (λ sc. set_line t version sc place x y);
@@ -396,7 +396,7 @@ from_lines t version = every_nested (FromLines t version) (record {
 })
 
 pub to_lines : (t : Table) (version : ℕ) → (version ≡ 1) ⊎ (version ≡ 2) → (c : Stmt) → ToLines t version c
-to_lines t version which = every_nested (ToLines t version) (record {
+to_lines t version which = every_statement (ToLines t version) (record {
   let_ = λ reg e. one_to t version which (Let reg e) (says-Let reg e) (λ sc. let_line t version sc reg e);
   if_ = if_to t version;
   set = λ place x y. one_to t version which (Set place x y) (says-Set place x y) (λ sc. set_line t version sc place x y);

@@ -11,7 +11,6 @@ pub mod LinesReadAgain
 pub mod LinesWereSpelled
 pub mod MatchedLaws
 pub mod NamesLaws
-pub mod Nested
 pub mod NestingLaws
 pub mod ReadAgain
 pub mod RowLaws

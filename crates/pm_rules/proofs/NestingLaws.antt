@@ -13,7 +13,7 @@ use Rattle.pm_base.specs.declared.program.Stmt.TheOpen.{Stmt-F}
 use Rattle.pm_base.specs.declared.program.Stmt.TheVariants.{Let, If, Set, Add, Wait, rolls-Let, rolls-If, rolls-Set, rolls-Add, rolls-Wait}
 use Rattle.pm_base.specs.declared.program.Stmt.TheViews.{roll-Stmt}
 use Rattle.pm_rules.specs.Nesting.{all_said, draft_of}
-use Rattle.pm_rules.proofs.Nested.{every_nested}
+use Rattle.pm_rules.proofs.Variants.{every_statement}
 use Rattle.pm_rules.specs.Rules.{empty, last_frame, with_first, with_said}
 use Rattle.pm_rules.specs.Spelling.{else_said, program_says, reg_said, says, says_all, says_step, sense_said}
 use Rattle.pm_rules.specs.declared.draft.Draft.{Draft}
@@ -121,7 +121,7 @@ if_whole test first second d =
     ∙ tail_whole test a second d
 
 pub said_whole : (c : Stmt) → IsSaidWhole c
-said_whole = every_nested IsSaidWhole (record {
+said_whole = every_statement IsSaidWhole (record {
   let_ = λ reg e. one_whole (Let reg e) (says-Let reg e);
   if_ = if_whole;
   set = λ place x y. one_whole (Set place x y) (says-Set place x y);
