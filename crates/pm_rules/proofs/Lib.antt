@@ -20,3 +20,4 @@ pub mod SpellingCounts
 pub mod SpellingEquations
 pub mod Variants
 pub mod WasSpelled
+pub mod DraftLaws

@@ -1,9 +1,10 @@
 -- Lines that are taken match, and in lines that match a needless `else` makes no difference.
-use Rattle.std.proofs.Common.{◌≡◌, ◌∙◌, ap, refl, sym, Bool, true, false, List, [], ◌∷◌, ◌++◌, Option, Some, None}
+use Rattle.std.proofs.Common.{arith, ℕ, ◌≡◌, ◌∙◌, ap, refl, sym, subst, Bool, true, false, List, [], ◌∷◌, ◌++◌, Option, Some, None}
 use Rattle.std.specs.Prelude.{not, ◌&&◌, is_some}
 use Rattle.pm_base.specs.declared.program.Stmt.{Stmt}
 use Rattle.pm_rules.specs.Grammar.{drops_else, is_matched, without_idle_else}
-use Rattle.pm_rules.specs.Nesting.{all_said, are_taken, is_taken, opens}
+use Rattle.pm_rules.specs.Reading.{Table}
+use Rattle.pm_rules.specs.Nesting.{AreFine, IsFine, all_said, are_taken, is_taken, opens}
 use Rattle.pm_rules.specs.Rules.{has_no_first, is_empty, last_frame, takes_else, with_said}
 use Rattle.pm_rules.specs.declared.draft.Draft.{Draft}
 use Rattle.pm_rules.specs.declared.draft.Frame.{Frame}
@@ -85,50 +86,99 @@ idle_taken d t =
     open_one [] f = refl
     open_one (g ∷ fs) f = refl
 
--- the lines are taken, and lead to the same draft
-abbrev pub AreSame : Draft → List Said → List Said → Type 0
-AreSame d ss canonical = (are_taken d ss ≡ true) × (all_said ss d ≡ all_said canonical d)
+open_one : (fs : List Frame) (f : Frame) → is_empty (fs ++ f ∷ []) ≡ false
+open_one [] f = refl
+open_one (g ∷ fs) f = refl
 
-kept : (d : Draft) (s : Said) (ss us : List Said) → is_taken d s ≡ true → AreSame (with_said s d) ss us → AreSame d (s ∷ ss) (s ∷ us)
-kept d s ss us t same = (rw (t, same.0) refl, same.1)
+-- where an `else` can be taken, its `end` can be too
+end_instead : (d : Draft) → is_taken d said.Else ≡ true → is_taken d said.End ≡ true
+end_instead d t =
+    let frame = frame_for_else d (last_frame d.frames) refl (turned_false _ (taken_parts d said.Else t).1) in
+    rw (frames_split d.frames frame.0 frame.1 frame.2, open_one frame.0 frame.1) refl
 
-dropped : (d : Draft) (ss zs : List Said) → is_taken d said.Else ≡ true → AreSame (with_said said.Else d) ss (said.End ∷ zs) →
-    AreSame d (said.Else ∷ ss) (said.End ∷ zs)
-dropped d ss zs t same = (rw (t, same.0) refl, same.1 ∙ ap (λ (e : Draft). all_said zs e) (idle_end d t))
+-- an `else` and an `end` are fine where they are taken
+plain_else : (t : Table) (version : ℕ) (d : Draft) → is_taken d said.Else ≡ true → IsFine t version d said.Else
+plain_else t version d taken = record { taken = taken; sayable = refl; short = omega arith }
 
-abbrev pub Goes : Draft → List Said → List Said → Type 0
-Goes d ss us = is_matched (opens d.frames) ss ≡ true → are_taken d us ≡ true → AreSame d ss us
+plain_end : (t : Table) (version : ℕ) (d : Draft) → is_taken d said.End ≡ true → IsFine t version d said.End
+plain_end t version d taken = record { taken = taken; sayable = refl; short = omega arith }
 
-on_kept : (d : Draft) (s : Said) (ss us : List Said) → ((e : Draft) → Goes e ss us) → Goes d (s ∷ ss) (s ∷ us)
-on_kept d s ss us more m t =
-    let parts = both (is_taken d s) (are_taken (with_said s d) us) t in
-    kept d s ss us parts.0 (more (with_said s d) (sym (matched_step d s ss parts.0) ∙ m) parts.1)
+-- the lines are fine, and lead to the same draft
+abbrev pub AreSame : Table → ℕ → Draft → List Said → List Said → Type 0
+AreSame t version d ss us = AreFine t version d ss × (all_said ss d ≡ all_said us d)
 
-on_dropped : (d : Draft) (ss zs : List Said) → ((e : Draft) → Goes e ss (said.End ∷ zs)) → Goes d (said.Else ∷ ss) (said.End ∷ zs)
-on_dropped d ss zs more m t =
+-- where lines that match lose needless `else`s
+abbrev pub Goes : Table → ℕ → Draft → List Said → List Said → Type 0
+Goes t version d ss us = is_matched (opens d.frames) ss ≡ true → AreFine t version d us → AreSame t version d ss us
+
+on_kept : (t : Table) (version : ℕ) (d : Draft) (s : Said) (ss us : List Said) → ((e : Draft) → Goes t version e ss us) → Goes t version d (s ∷ ss) (s ∷ us)
+on_kept t version d s ss us more m fine =
+    let same = more (with_said s d) (sym (matched_step d s ss fine.0.taken) ∙ m) fine.1 in
+    ((fine.0, same.0), same.1)
+
+on_dropped : (t : Table) (version : ℕ) (d : Draft) (ss zs : List Said) → ((e : Draft) → Goes t version e ss (said.End ∷ zs)) →
+    Goes t version d (said.Else ∷ ss) (said.End ∷ zs)
+on_dropped t version d ss zs more m fine =
     let taken = else_taken d ss m in
-    let parts = both (is_taken d said.End) (are_taken (with_said said.End d) zs) t in
-    dropped d ss zs taken (more (with_said said.Else d) (sym (matched_step d said.Else ss taken) ∙ m)
-    (rw (idle_taken d taken, idle_end d taken) parts.1))
+    let same = more (with_said said.Else d) (sym (matched_step d said.Else ss taken) ∙ m)
+    (plain_end t version (with_said said.Else d) (idle_taken d taken), subst (λ (e : Draft). AreFine t version e zs) (sym (idle_end d taken)) fine.1) in
+    ((plain_else t version d taken, same.0), same.1 ∙ ap (λ (e : Draft). all_said zs e) (idle_end d taken))
 
-on_else : (d : Draft) (ss us : List Said) → ((e : Draft) → Goes e ss us) → Goes d (said.Else ∷ ss) (drops_else said.Else us)
-on_else d ss [] more = on_kept d said.Else ss [] more
-on_else d ss (said.Reg w z ∷ us) more = on_kept d said.Else ss (said.Reg w z ∷ us) more
-on_else d ss (said.Sense w s ∷ us) more = on_kept d said.Else ss (said.Sense w s ∷ us) more
-on_else d ss (said.Does s ∷ us) more = on_kept d said.Else ss (said.Does s ∷ us) more
-on_else d ss (said.If test ∷ us) more = on_kept d said.Else ss (said.If test ∷ us) more
-on_else d ss (said.Else ∷ us) more = on_kept d said.Else ss (said.Else ∷ us) more
-on_else d ss (said.End ∷ us) more = on_dropped d ss us more
+on_else : (t : Table) (version : ℕ) (d : Draft) (ss us : List Said) → ((e : Draft) → Goes t version e ss us) →
+    Goes t version d (said.Else ∷ ss) (drops_else said.Else us)
+on_else t version d ss [] more = on_kept t version d said.Else ss [] more
+on_else t version d ss (said.Reg w z ∷ us) more = on_kept t version d said.Else ss (said.Reg w z ∷ us) more
+on_else t version d ss (said.Sense w s ∷ us) more = on_kept t version d said.Else ss (said.Sense w s ∷ us) more
+on_else t version d ss (said.Does s ∷ us) more = on_kept t version d said.Else ss (said.Does s ∷ us) more
+on_else t version d ss (said.If test ∷ us) more = on_kept t version d said.Else ss (said.If test ∷ us) more
+on_else t version d ss (said.Else ∷ us) more = on_kept t version d said.Else ss (said.Else ∷ us) more
+on_else t version d ss (said.End ∷ us) more = on_dropped t version d ss us more
 
-nil_same : (d : Draft) → Goes d [] []
-nil_same d m t = (refl, refl)
+nil_same : (t : Table) (version : ℕ) (d : Draft) → Goes t version d [] []
+nil_same t version d m fine = (tt, refl)
 
--- lines that match are taken where those without needless `else`s are, and lead to the same draft
-pub idle_same : (ss : List Said) (d : Draft) → Goes d ss (without_idle_else ss)
-idle_same [] d = nil_same d
-idle_same (said.Reg w z ∷ ss) d = on_kept d (said.Reg w z) ss (without_idle_else ss) (idle_same ss)
-idle_same (said.Sense w s ∷ ss) d = on_kept d (said.Sense w s) ss (without_idle_else ss) (idle_same ss)
-idle_same (said.Does s ∷ ss) d = on_kept d (said.Does s) ss (without_idle_else ss) (idle_same ss)
-idle_same (said.If test ∷ ss) d = on_kept d (said.If test) ss (without_idle_else ss) (idle_same ss)
-idle_same (said.Else ∷ ss) d = on_else d ss (without_idle_else ss) (idle_same ss)
-idle_same (said.End ∷ ss) d = on_kept d said.End ss (without_idle_else ss) (idle_same ss)
+-- lines that match are fine where those without needless `else`s are, and lead to the same draft
+pub idle_same : (t : Table) (version : ℕ) (ss : List Said) (d : Draft) → Goes t version d ss (without_idle_else ss)
+idle_same t version [] d = nil_same t version d
+idle_same t version (said.Reg w z ∷ ss) d = on_kept t version d (said.Reg w z) ss (without_idle_else ss) (idle_same t version ss)
+idle_same t version (said.Sense w s ∷ ss) d = on_kept t version d (said.Sense w s) ss (without_idle_else ss) (idle_same t version ss)
+idle_same t version (said.Does s ∷ ss) d = on_kept t version d (said.Does s) ss (without_idle_else ss) (idle_same t version ss)
+idle_same t version (said.If test ∷ ss) d = on_kept t version d (said.If test) ss (without_idle_else ss) (idle_same t version ss)
+idle_same t version (said.Else ∷ ss) d = on_else t version d ss (without_idle_else ss) (idle_same t version ss)
+idle_same t version (said.End ∷ ss) d = on_kept t version d said.End ss (without_idle_else ss) (idle_same t version ss)
+
+-- the other way
+abbrev pub Comes : Table → ℕ → Draft → List Said → List Said → Type 0
+Comes t version d ss us = AreFine t version d ss → AreFine t version d us
+
+back_kept : (t : Table) (version : ℕ) (d : Draft) (s : Said) (ss us : List Said) → ((e : Draft) → Comes t version e ss us) → Comes t version d (s ∷ ss) (s ∷ us)
+back_kept t version d s ss us more fine = (fine.0, more (with_said s d) fine.1)
+
+back_dropped : (t : Table) (version : ℕ) (d : Draft) (ss zs : List Said) → ((e : Draft) → Comes t version e ss (said.End ∷ zs)) →
+    Comes t version d (said.Else ∷ ss) (said.End ∷ zs)
+back_dropped t version d ss zs more fine =
+    let inner = more (with_said said.Else d) fine.1 in
+    (plain_end t version d (end_instead d fine.0.taken), subst (λ (e : Draft). AreFine t version e zs) (idle_end d fine.0.taken) inner.1)
+
+back_else : (t : Table) (version : ℕ) (d : Draft) (ss us : List Said) → ((e : Draft) → Comes t version e ss us) →
+    Comes t version d (said.Else ∷ ss) (drops_else said.Else us)
+back_else t version d ss [] more = back_kept t version d said.Else ss [] more
+back_else t version d ss (said.Reg w z ∷ us) more = back_kept t version d said.Else ss (said.Reg w z ∷ us) more
+back_else t version d ss (said.Sense w s ∷ us) more = back_kept t version d said.Else ss (said.Sense w s ∷ us) more
+back_else t version d ss (said.Does s ∷ us) more = back_kept t version d said.Else ss (said.Does s ∷ us) more
+back_else t version d ss (said.If test ∷ us) more = back_kept t version d said.Else ss (said.If test ∷ us) more
+back_else t version d ss (said.Else ∷ us) more = back_kept t version d said.Else ss (said.Else ∷ us) more
+back_else t version d ss (said.End ∷ us) more = back_dropped t version d ss us more
+
+nil_back : (t : Table) (version : ℕ) (d : Draft) → Comes t version d [] []
+nil_back t version d fine = tt
+
+-- fine lines are fine without needless `else`s
+pub idle_back : (t : Table) (version : ℕ) (ss : List Said) (d : Draft) → Comes t version d ss (without_idle_else ss)
+idle_back t version [] d = nil_back t version d
+idle_back t version (said.Reg w z ∷ ss) d = back_kept t version d (said.Reg w z) ss (without_idle_else ss) (idle_back t version ss)
+idle_back t version (said.Sense w s ∷ ss) d = back_kept t version d (said.Sense w s) ss (without_idle_else ss) (idle_back t version ss)
+idle_back t version (said.Does s ∷ ss) d = back_kept t version d (said.Does s) ss (without_idle_else ss) (idle_back t version ss)
+idle_back t version (said.If test ∷ ss) d = back_kept t version d (said.If test) ss (without_idle_else ss) (idle_back t version ss)
+idle_back t version (said.Else ∷ ss) d = back_else t version d ss (without_idle_else ss) (idle_back t version ss)
+idle_back t version (said.End ∷ ss) d = back_kept t version d said.End ss (without_idle_else ss) (idle_back t version ss)

@@ -63,7 +63,7 @@ names_free (n ∷ ns) e (suc k) h = names_free ns (first_fits n ns e).rest k (om
 same_itself : (n : List ℕ) → bytes_eq n n ≡ true
 same_itself n = (bytes_eq-Decides n n).1 refl
 
-differ : (a b : List ℕ) (is : Bool) → bytes_eq b a ≡ is → bytes_eq a b ≡ false → is ≡ false
+pub differ : (a b : List ℕ) (is : Bool) → bytes_eq b a ≡ is → bytes_eq a b ≡ false → is ≡ false
 differ a b true is e =
     let same : b ≡ a = (bytes_eq-Decides b a).0 is in
     let never : true ≡ false = sym ((bytes_eq-Decides a b).1 (sym same)) ∙ e in cc
