@@ -51,7 +51,7 @@ pub sense_names-length : (a : List SenseRow) → length (sense_names a) ≡ leng
 sense_names-length [] = refl
 sense_names-length (r ∷ a) = omega (arith, sense_names-length a)
 
-has_name-append : (w : List ℕ) (a b : List (List ℕ)) → has_name w (a ++ b) ≡ (has_name w a || has_name w b)
+pub has_name-append : (w : List ℕ) (a b : List (List ℕ)) → has_name w (a ++ b) ≡ (has_name w a || has_name w b)
 has_name-append w [] b = refl
 has_name-append w (n ∷ a) b = ap (λ (x : Bool). bytes_eq n w || x) (has_name-append w a b) ∙ or_assoc (bytes_eq n w) (has_name w a) (has_name w b)
   where
@@ -59,7 +59,7 @@ has_name-append w (n ∷ a) b = ap (λ (x : Bool). bytes_eq n w || x) (has_name-
     or_assoc true y z = refl
     or_assoc false y z = refl
 
-or_false : (x y : Bool) → x ≡ false → y ≡ false → (x || y) ≡ false
+pub or_false : (x y : Bool) → x ≡ false → y ≡ false → (x || y) ≡ false
 or_false false false a b = refl
 or_false false true a b = b
 or_false true y a b = a

@@ -75,14 +75,14 @@ plain-Add place x y = search (rules, the_lemmas)
 plain-Wait : (e : Expr) → is_plain (Wait e) ≡ true
 plain-Wait e = search (rules, the_lemmas)
 
-and_true : (x y : Bool) → x ≡ true → y ≡ true → (x && y) ≡ true
+pub and_true : (x y : Bool) → x ≡ true → y ≡ true → (x && y) ≡ true
 and_true true y a b = b
 and_true false y a b = cc
 
-line_test : (n : ℕ) → n ≤ 64 → in_line n ≡ true
+pub line_test : (n : ℕ) → n ≤ 64 → in_line n ≡ true
 line_test n h = grind (arith, nat_tests)
 
-line_is : (n : ℕ) → in_line n ≡ true → n ≤ 64
+pub line_is : (n : ℕ) → in_line n ≡ true → n ≤ 64
 line_is n h = grind (arith, nat_tests)
 
 two_not_one : (version : ℕ) → (version == 2) ≡ true → version ≡ 1 → ⊥
@@ -164,19 +164,19 @@ wait_line t version sc e = record {
 }
 
 -- so many `if`s are open
-abbrev depth : Draft → ℕ
+abbrev pub depth : Draft → ℕ
 depth d = length d.frames
 
-abbrev Good : Table → ℕ → Draft → Stmt → Type 0
+abbrev pub Good : Table → ℕ → Draft → Stmt → Type 0
 Good t version d c = IsGood t version (known_in (scope_of t d)) (depth d) c
 
 -- fine lines are of a statement that fits, and of what follows it
-abbrev FromLines : Table → ℕ → Stmt → Type 0
+abbrev pub FromLines : Table → ℕ → Stmt → Type 0
 FromLines t version c = (d : Draft) (rest : List Said) → depth d ≤ 8 → AreFine t version d (says c ++ rest) →
     Good t version d c × AreFine t version (with_body (c ∷ []) d) rest
 
 -- the lines of a statement that fits are fine where those that follow it are
-abbrev ToLines : Table → ℕ → Stmt → Type 0
+abbrev pub ToLines : Table → ℕ → Stmt → Type 0
 ToLines t version c = (d : Draft) (rest : List Said) → Good t version d c → AreFine t version (with_body (c ∷ []) d) rest →
     AreFine t version d (says c ++ rest)
 
@@ -197,10 +197,10 @@ one_to t version which c e line d rest good more =
 abbrev AllGood : Table → ℕ → Draft → List Stmt → Type 0
 AllGood t version d cs = AllByRecursion (Good t version d) cs
 
-with_none : (d : Draft) → with_body [] d ≡ d
+pub with_none : (d : Draft) → with_body [] d ≡ d
 with_none d = ap (λ (b : List Stmt). record d { body = b }) (append-nil d.body)
 
-with_more : (c : Stmt) (cs : List Stmt) (d : Draft) → with_body cs (with_body (c ∷ []) d) ≡ with_body (c ∷ cs) d
+pub with_more : (c : Stmt) (cs : List Stmt) (d : Draft) → with_body cs (with_body (c ∷ []) d) ≡ with_body (c ∷ cs) d
 with_more c cs d = ap (λ (b : List Stmt). record d { body = b }) (append_assoc d.body (c ∷ []) cs)
 
 list_from : (t : Table) (version : ℕ) (cs : List (Holding (FromLines t version))) (d : Draft) (rest : List Said) → depth d ≤ 8 →
@@ -223,15 +223,15 @@ list_to t version (c ∷ cs) d rest good more =
     subst (AreFine t version d) (sym (append_assoc (says c.0) lines rest)) (c.1 d (lines ++ rest) good.0 others)
 
 -- statements that fit, one by one and together
-abbrev AreGood : Table → ℕ → Known → ℕ → List Stmt → Type 0
+abbrev pub AreGood : Table → ℕ → Known → ℕ → List Stmt → Type 0
 AreGood t version k n cs = AllByRecursion (IsGood t version k n) cs
 
-record Together (t : Table) (version : ℕ) (k : Known) (n : ℕ) (cs : List Stmt) : Type 0 where
-  fits : all_true (map (stmt_fits (class_rows t) k) cs) ≡ true
-  depth : greatest (map depth_of cs) + n ≤ 8
-  plain : version ≡ 1 → all_true (map is_plain cs) ≡ true
+pub record Together (t : Table) (version : ℕ) (k : Known) (n : ℕ) (cs : List Stmt) : Type 0 where
+  pub fits : all_true (map (stmt_fits (class_rows t) k) cs) ≡ true
+  pub depth : greatest (map depth_of cs) + n ≤ 8
+  pub plain : version ≡ 1 → all_true (map is_plain cs) ≡ true
 
-together : (t : Table) (version : ℕ) (k : Known) (n : ℕ) (cs : List Stmt) → n ≤ 8 → AreGood t version k n cs → Together t version k n cs
+pub together : (t : Table) (version : ℕ) (k : Known) (n : ℕ) (cs : List Stmt) → n ≤ 8 → AreGood t version k n cs → Together t version k n cs
 together t version k n [] low good = record { fits = refl; depth = omega (arith, low); plain = λ one. refl }
 together t version k n (c ∷ cs) low good =
     let more = together t version k n cs low good.1 in
@@ -241,7 +241,7 @@ together t version k n (c ∷ cs) low good =
       plain = λ one. and_true _ _ (good.0.plain one) (more.plain one);
     }
 
-apart : (t : Table) (version : ℕ) (k : Known) (n : ℕ) (cs : List Stmt) → Together t version k n cs → AreGood t version k n cs
+pub apart : (t : Table) (version : ℕ) (k : Known) (n : ℕ) (cs : List Stmt) → Together t version k n cs → AreGood t version k n cs
 apart t version k n [] all = tt
 apart t version k n (c ∷ cs) all =
     let fits = both (stmt_fits (class_rows t) k c) (all_true (map (stmt_fits (class_rows t) k) cs)) all.fits in

@@ -21,3 +21,4 @@ pub mod SpellingEquations
 pub mod Variants
 pub mod WasSpelled
 pub mod DraftLaws
+pub mod ProgramLaws
