@@ -52,7 +52,8 @@ fits-Add : (rows : List ClassRow) (k : Known) (p : Place) (x y : Expr) →
     stmt_fits rows k (Add p x y) ≡ (in_line (change_tokens p x y) && change_known rows k p x y)
 fits-Add rows k p x y = search (rules, the_lemmas)
 
-fits-Wait : (rows : List ClassRow) (k : Known) (e : Expr) → stmt_fits rows k (Wait e) ≡ (in_line (1 + tokens_of e) && is_known k e)
+fits-Wait : (rows : List ClassRow) (k : Known) (e : Expr) →
+    stmt_fits rows k (Wait e) ≡ (in_line (1 + tokens_of e) && is_known k e)
 fits-Wait rows k e = search (rules, the_lemmas)
 
 plain-Let : (reg : ℕ) (e : Expr) → is_plain (Let reg e) ≡ true
@@ -97,7 +98,8 @@ swapped true false false = refl
 swapped false b c = refl
 
 -- the tests of an `if`
-paired : (a f s v pf ps : Bool) → (a && ((f && (v || pf)) && (s && (v || ps)))) ≡ ((a && (f && s)) && (v || (pf && ps)))
+paired : (a f s v pf ps : Bool) →
+    (a && ((f && (v || pf)) && (s && (v || ps)))) ≡ ((a && (f && s)) && (v || (pf && ps)))
 paired false f s v pf ps = refl
 paired true false s v pf ps = refl
 paired true true false true pf ps = refl
@@ -107,34 +109,43 @@ paired true true true true pf ps = refl
 paired true true true false true ps = refl
 paired true true true false false ps = refl
 
-pub lines_fit-append : (sc : Scope) (version : ℕ) (ss ts : List Said) → lines_fit sc version (ss ++ ts) ≡ (lines_fit sc version ss && lines_fit sc version ts)
+pub lines_fit-append : (sc : Scope) (version : ℕ) (ss ts : List Said) →
+    lines_fit sc version (ss ++ ts) ≡ (lines_fit sc version ss && lines_fit sc version ts)
 lines_fit-append sc version [] ts = refl
 lines_fit-append sc version (s ∷ ss) ts =
     rw (lines_fit-append sc version ss ts)
-    (and_assoc (in_line (length (spell_said sc s)) && is_sayable sc version s) (lines_fit sc version ss) (lines_fit sc version ts))
+    (and_assoc (in_line (length (spell_said sc s)) && is_sayable sc version s) (lines_fit sc version ss)
+    (lines_fit sc version ts))
 
 -- its lines fit just where it does, and is of the version
 abbrev LinesTell : Scope → ℕ → Stmt → Type 0
-LinesTell sc version s = lines_fit sc version (says s) ≡ (stmt_fits (class_rows sc.table) (known_in sc) s && is_of_version version s)
+LinesTell sc version s =
+    lines_fit sc version (says s) ≡ (stmt_fits (class_rows sc.table) (known_in sc) s && is_of_version version s)
 
 -- a statement of one line
-line_tells : (sc : Scope) (version : ℕ) (s : Stmt) (n : ℕ) (known : Bool) → says s ≡ said.Does s ∷ [] → length (spell_does sc s) ≡ n →
-    does_sayable sc version s ≡ known → stmt_fits (class_rows sc.table) (known_in sc) s ≡ (in_line n && known) → is_plain s ≡ true → LinesTell sc version s
-line_tells sc version s n known alone count sayable fits plain = rw (alone, count, sayable, fits, plain, or_true (version == 2)) refl
+line_tells : (sc : Scope) (version : ℕ) (s : Stmt) (n : ℕ) (known : Bool) → says s ≡ said.Does s ∷ [] →
+    length (spell_does sc s) ≡ n →
+    does_sayable sc version s ≡ known → stmt_fits (class_rows sc.table) (known_in sc) s ≡ (in_line n && known) →
+    is_plain s ≡ true → LinesTell sc version s
+line_tells sc version s n known alone count sayable fits plain =
+    rw (alone, count, sayable, fits, plain, or_true (version == 2)) refl
 
 let_tells : (sc : Scope) (version reg : ℕ) (e : Expr) → LinesTell sc version (Let reg e)
 let_tells sc version reg e = line_tells sc version (Let reg e) (3 + tokens_of e) _ (says-Let reg e)
-    (omega (arith, ap (λ (ts : List Tok). length ts) (does-Let sc reg e), expression_counted sc e)) (sayable-Let sc version reg e)
+    (omega (arith, ap (λ (ts : List Tok). length ts) (does-Let sc reg e), expression_counted sc e))
+    (sayable-Let sc version reg e)
     (fits-Let (class_rows sc.table) (known_in sc) reg e) (plain-Let reg e)
 
 set_tells : (sc : Scope) (version : ℕ) (p : Place) (x y : Expr) → LinesTell sc version (Set p x y)
 set_tells sc version p x y = line_tells sc version (Set p x y) (change_tokens p x y) _ (says-Set p x y)
-    (ap (λ (ts : List Tok). length ts) (does-Set sc p x y) ∙ change_counted sc (codes "set") p x y) (sayable-Set sc version p x y)
+    (ap (λ (ts : List Tok). length ts) (does-Set sc p x y) ∙ change_counted sc (codes "set") p x y)
+    (sayable-Set sc version p x y)
     (fits-Set (class_rows sc.table) (known_in sc) p x y) (plain-Set p x y)
 
 wait_tells : (sc : Scope) (version : ℕ) (e : Expr) → LinesTell sc version (Wait e)
 wait_tells sc version e = line_tells sc version (Wait e) (1 + tokens_of e) _ (says-Wait e)
-    (omega (arith, ap (λ (ts : List Tok). length ts) (does-Wait sc e), expression_counted sc e)) (sayable-Wait sc version e)
+    (omega (arith, ap (λ (ts : List Tok). length ts) (does-Wait sc e), expression_counted sc e))
+    (sayable-Wait sc version e)
     (fits-Wait (class_rows sc.table) (known_in sc) e) (plain-Wait e)
 
 add_tells : (sc : Scope) (version : ℕ) (p : Place) (x y : Expr) → LinesTell sc version (Add p x y)
@@ -153,16 +164,19 @@ add_tells sc version p x y =
 
 more_tell : (sc : Scope) (version : ℕ) (hs : List (Holding (LinesTell sc version))) →
     lines_fit sc version (says_all (those (LinesTell sc version) hs)) ≡
-    (stmts_fit (class_rows sc.table) (known_in sc) (those (LinesTell sc version) hs) && are_of_version version (those (LinesTell sc version) hs))
+    (stmts_fit (class_rows sc.table) (known_in sc) (those (LinesTell sc version) hs) && are_of_version version
+    (those (LinesTell sc version) hs))
 more_tell sc version [] = sym (or_true (version == 2))
 more_tell sc version (h ∷ hs) =
     let ss = those (LinesTell sc version) hs in
     lines_fit-append sc version (says h.0) (says_all ss) ∙ rw (h.1, more_tell sc version hs)
-    (paired true (stmt_fits (class_rows sc.table) (known_in sc) h.0) (stmts_fit (class_rows sc.table) (known_in sc) ss) (version == 2)
+    (paired true (stmt_fits (class_rows sc.table) (known_in sc) h.0)
+    (stmts_fit (class_rows sc.table) (known_in sc) ss) (version == 2)
     (is_plain h.0) (all_true (map is_plain ss)))
 
 -- an `else` always fits
-else_fits : (sc : Scope) (version : ℕ) (ss : List Stmt) → lines_fit sc version (else_said (map says ss)) ≡ lines_fit sc version (says_all ss)
+else_fits : (sc : Scope) (version : ℕ) (ss : List Stmt) →
+    lines_fit sc version (else_said (map says ss)) ≡ lines_fit sc version (says_all ss)
 else_fits sc version [] = refl
 else_fits sc version (s ∷ ss) = refl
 
@@ -185,7 +199,8 @@ if_tells sc version test first second =
       fits-If rows k test ss ts,
       plain-If test ss ts,
       and_true (stmts_fit rows k ts && are_of_version version ts),
-    ) (paired (in_line (1 + tokens_of test) && is_known k test) (stmts_fit rows k ss) (stmts_fit rows k ts) (version == 2)
+    ) (paired (in_line (1 + tokens_of test) && is_known k test) (stmts_fit rows k ss) (stmts_fit rows k ts)
+    (version == 2)
     (all_true (map is_plain ss)) (all_true (map is_plain ts)))
 
 pub statement_tells : (sc : Scope) (version : ℕ) (s : Stmt) →
@@ -200,9 +215,12 @@ statement_tells sc version = every_statement (LinesTell sc version) (record {
 
 -- the lines of these statements fit just where these do, and are of the version
 pub statements_tell : (sc : Scope) (version : ℕ) (ss : List Stmt) →
-    lines_fit sc version (says_all ss) ≡ (stmts_fit (class_rows sc.table) (known_in sc) ss && are_of_version version ss)
+    lines_fit sc version (says_all ss) ≡
+    (stmts_fit (class_rows sc.table) (known_in sc) ss && are_of_version version ss)
 statements_tell sc version [] = sym (or_true (version == 2))
 statements_tell sc version (s ∷ ss) =
-    lines_fit-append sc version (says s) (says_all ss) ∙ rw (statement_tells sc version s, statements_tell sc version ss)
-    (paired true (stmt_fits (class_rows sc.table) (known_in sc) s) (stmts_fit (class_rows sc.table) (known_in sc) ss) (version == 2)
+    lines_fit-append sc version (says s) (says_all ss) ∙ rw
+    (statement_tells sc version s, statements_tell sc version ss)
+    (paired true (stmt_fits (class_rows sc.table) (known_in sc) s) (stmts_fit (class_rows sc.table) (known_in sc) ss)
+    (version == 2)
     (is_plain s) (all_true (map is_plain ss)))
