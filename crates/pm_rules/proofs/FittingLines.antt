@@ -11,13 +11,13 @@ use Rattle.pm_base.specs.declared.program.Stmt.TheVariants.{Let, If, Set, Add, W
 use Rattle.pm_rules.specs.Grammar.{is_plain}
 use Rattle.pm_rules.specs.Reading.{Scope, class_rows}
 use Rattle.pm_rules.specs.Sayable.{are_of_version, does_sayable, is_of_version, is_sayable, known_in, lines_fit}
-use Rattle.pm_rules.specs.Spelling.{concat, else_said, says, says_all, spell, spell_change, spell_does, spell_said}
+use Rattle.pm_rules.specs.Spelling.{else_said, says, says_all, spell_does, spell_said}
 use Rattle.pm_rules.specs.Tokens.{Tok}
 use Rattle.pm_rules.specs.declared.said.Said.{Said}
 use Rattle.pm_rules.specs.declared.said.Said.TheVariants as said
 use Rattle.pm_rules.proofs.SpellingCounts.{change_counted, expression_counted}
 use Rattle.pm_rules.proofs.SpellingEquations.{does-Let, does-Set, does-Add, does-Wait, sayable-Let, sayable-Set, sayable-Add, sayable-Wait}
-use Rattle.pm_rules.proofs.Variants.{Holding, OfEachStmt, every_statement, those}
+use Rattle.pm_rules.proofs.Variants.{Holding, every_statement, those}
 
 pub says-Let : (reg : ℕ) (e : Expr) → says (Let reg e) ≡ said.Does (Let reg e) ∷ []
 says-Let reg e = search (rules, the_lemmas)
@@ -73,7 +73,7 @@ plain-Wait : (e : Expr) → is_plain (Wait e) ≡ true
 plain-Wait e = search (rules, the_lemmas)
 
 -- laws of tests
-and_assoc : (a b c : Bool) → (a && (b && c)) ≡ ((a && b) && c)
+pub and_assoc : (a b c : Bool) → (a && (b && c)) ≡ ((a && b) && c)
 and_assoc true b c = refl
 and_assoc false b c = refl
 

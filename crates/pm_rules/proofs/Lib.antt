@@ -13,3 +13,4 @@ pub mod WasSpelled
 pub mod LinesWereSpelled
 pub mod ScopesMade
 pub mod FittingLines
+pub mod FittingSenses

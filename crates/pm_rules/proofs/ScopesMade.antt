@@ -7,7 +7,7 @@ use Rattle.std.proofs.lemmas.Bool.Decides.{nat_tests}
 use Rattle.pm_base.specs.Fits.{has_name, names_fit}
 use Rattle.pm_base.specs.Names.{is_name, is_reserved}
 use Rattle.pm_rules.specs.Grammar.{AreDistinct, IsTable}
-use Rattle.pm_rules.specs.Reading.{Scope, Table, in_u32, number_from, number_of}
+use Rattle.pm_rules.specs.Reading.{Table, number_from, number_of}
 use Rattle.pm_rules.specs.Sayable.{IsScope}
 use Rattle.pm_rules.specs.Statements.{is_free}
 use Rattle.pm_rules.proofs.KnownParts.{both}
