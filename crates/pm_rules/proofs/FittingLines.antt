@@ -1,14 +1,15 @@
 -- A statement fits where each of its lines does.
-use Rattle.std.proofs.Common.{◌≡◌, refl, rules, arith, ap, sym, ◌∙◌, ℕ, ◌+◌, Bool, true, false, List, [], ◌∷◌, ◌++◌, length, nat_lt, codes}
-use Rattle.std.specs.Prelude.{◌==◌, ◌&&◌, ◌||◌, map}
+use Rattle.std.proofs.Common.{◌≡◌, inl, inr, refl, rules, arith, ap, sym, ◌∙◌, ℕ, ◌+◌, Bool, true, false, List, [], ◌∷◌, ◌++◌, length, nat_lt, codes}
+use Rattle.std.specs.Prelude.{◌⊎◌, ◌==◌, ◌&&◌, ◌||◌, map}
 use Rattle.pm_base.specs.Fits.{all_true, change_known, change_tokens, in_line, is_known, stmt_fits, stmts_fit, tokens_of}
 use Rattle.pm_base.specs.declared.fits.Known.{Known}
 use Rattle.pm_base.specs.declared.layout.ClassRow.{ClassRow}
 use Rattle.pm_base.specs.declared.program.Expr.{Expr}
 use Rattle.pm_base.specs.declared.program.Place.{Place}
+use Rattle.pm_base.specs.declared.program.Program.{Program}
 use Rattle.pm_base.specs.declared.program.Stmt.{Stmt, the_lemmas}
 use Rattle.pm_base.specs.declared.program.Stmt.TheVariants.{Let, If, Set, Add, Wait}
-use Rattle.pm_rules.specs.Grammar.{is_plain}
+use Rattle.pm_rules.specs.Grammar.{IsOfVersion, is_plain}
 use Rattle.pm_rules.specs.Reading.{Scope, class_rows}
 use Rattle.pm_rules.specs.Sayable.{are_of_version, does_sayable, is_of_version, is_sayable, known_in, lines_fit}
 use Rattle.pm_rules.specs.Spelling.{else_said, says, says_all, spell_does, spell_said}
@@ -35,41 +36,41 @@ says-Add p x y = search (rules, the_lemmas)
 pub says-Wait : (e : Expr) → says (Wait e) ≡ said.Does (Wait e) ∷ []
 says-Wait e = search (rules, the_lemmas)
 
-fits-Let : (rows : List ClassRow) (k : Known) (reg : ℕ) (e : Expr) →
+pub fits-Let : (rows : List ClassRow) (k : Known) (reg : ℕ) (e : Expr) →
     stmt_fits rows k (Let reg e) ≡ (in_line (3 + tokens_of e) && (nat_lt reg k.regs && is_known k e))
 fits-Let rows k reg e = search (rules, the_lemmas)
 
-fits-If : (rows : List ClassRow) (k : Known) (test : Expr) (first second : List Stmt) →
+pub fits-If : (rows : List ClassRow) (k : Known) (test : Expr) (first second : List Stmt) →
     stmt_fits rows k (If test first second) ≡
     (in_line (1 + tokens_of test) && is_known k test && (stmts_fit rows k first && stmts_fit rows k second))
 fits-If rows k test first second = search (rules, the_lemmas)
 
-fits-Set : (rows : List ClassRow) (k : Known) (p : Place) (x y : Expr) →
+pub fits-Set : (rows : List ClassRow) (k : Known) (p : Place) (x y : Expr) →
     stmt_fits rows k (Set p x y) ≡ (in_line (change_tokens p x y) && change_known rows k p x y)
 fits-Set rows k p x y = search (rules, the_lemmas)
 
-fits-Add : (rows : List ClassRow) (k : Known) (p : Place) (x y : Expr) →
+pub fits-Add : (rows : List ClassRow) (k : Known) (p : Place) (x y : Expr) →
     stmt_fits rows k (Add p x y) ≡ (in_line (change_tokens p x y) && change_known rows k p x y)
 fits-Add rows k p x y = search (rules, the_lemmas)
 
-fits-Wait : (rows : List ClassRow) (k : Known) (e : Expr) →
+pub fits-Wait : (rows : List ClassRow) (k : Known) (e : Expr) →
     stmt_fits rows k (Wait e) ≡ (in_line (1 + tokens_of e) && is_known k e)
 fits-Wait rows k e = search (rules, the_lemmas)
 
-plain-Let : (reg : ℕ) (e : Expr) → is_plain (Let reg e) ≡ true
+pub plain-Let : (reg : ℕ) (e : Expr) → is_plain (Let reg e) ≡ true
 plain-Let reg e = search (rules, the_lemmas)
 
-plain-If : (test : Expr) (first second : List Stmt) →
+pub plain-If : (test : Expr) (first second : List Stmt) →
     is_plain (If test first second) ≡ (all_true (map is_plain first) && all_true (map is_plain second))
 plain-If test first second = search (rules, the_lemmas)
 
-plain-Set : (p : Place) (x y : Expr) → is_plain (Set p x y) ≡ true
+pub plain-Set : (p : Place) (x y : Expr) → is_plain (Set p x y) ≡ true
 plain-Set p x y = search (rules, the_lemmas)
 
-plain-Add : (p : Place) (x y : Expr) → is_plain (Add p x y) ≡ false
+pub plain-Add : (p : Place) (x y : Expr) → is_plain (Add p x y) ≡ false
 plain-Add p x y = search (rules, the_lemmas)
 
-plain-Wait : (e : Expr) → is_plain (Wait e) ≡ true
+pub plain-Wait : (e : Expr) → is_plain (Wait e) ≡ true
 plain-Wait e = search (rules, the_lemmas)
 
 -- laws of tests
@@ -224,3 +225,12 @@ statements_tell sc version (s ∷ ss) =
     (paired true (stmt_fits (class_rows sc.table) (known_in sc) s) (stmts_fit (class_rows sc.table) (known_in sc) ss)
     (version == 2)
     (is_plain s) (all_true (map is_plain ss)))
+
+-- versions 1 and 2
+pub version_tells : (version : ℕ) (p : Program) → (version ≡ 1) ⊎ (version ≡ 2) → IsOfVersion version p →
+    are_of_version version p.body ≡ true
+version_tells version p (inl first) plain = rw (plain first) (or_true (version == 2))
+version_tells version p (inr second) plain = rw second refl
+
+pub version_told : (version : ℕ) (p : Program) → are_of_version version p.body ≡ true → IsOfVersion version p
+version_told version p told first = rw first at told
