@@ -16,7 +16,8 @@ use Rattle.pm_rules.proofs.SpellingCounts.{sense_counted}
 
 -- the first of them, and then the others, which may use the first
 pub senses_fit-append : (rows : List ClassRow) (k : Known) (xs ys : List SenseRow) →
-    senses_fit rows k (xs ++ ys) ≡ (senses_fit rows k xs && senses_fit rows (record k { senses = k.senses + length xs }) ys)
+    senses_fit rows k (xs ++ ys) ≡
+    (senses_fit rows k xs && senses_fit rows (record k { senses = k.senses + length xs }) ys)
 senses_fit-append rows k [] ys =
     let none : k.senses ≡ k.senses + 0 = omega arith in
     ap (λ (n : ℕ). senses_fit rows (record k { senses = n }) ys) none
