@@ -17,16 +17,19 @@ use Rattle.pm_rules.specs.Tokens.{Tok, name, number, symbol}
 use Rattle.pm_rules.specs.declared.token.Symbol.{Symbol}
 use Rattle.pm_rules.specs.declared.token.Symbol.TheVariants as symbols
 
-pub bind_ok : {A B : Type 0} (o : Option A) (f : A → Option B) (y : B) → (o >>= f) ≡ Some y → (x : A) × (o ≡ Some x) × (f x ≡ Some y)
+pub bind_ok : {A B : Type 0} (o : Option A) (f : A → Option B) (y : B) → (o >>= f) ≡ Some y →
+    (x : A) × (o ≡ Some x) × (f x ≡ Some y)
 bind_ok None f y e = cc
 bind_ok (Some x) f y e = (x, refl, e)
 
-pub map_ok : {A B : Type 0} (f : A → B) (o : Option A) (y : B) → option_map f o ≡ Some y → (x : A) × (o ≡ Some x) × (f x ≡ y)
+pub map_ok : {A B : Type 0} (f : A → B) (o : Option A) (y : B) → option_map f o ≡ Some y →
+    (x : A) × (o ≡ Some x) × (f x ≡ y)
 map_ok f None y e = cc
 map_ok f (Some x) y e = (x, refl, same_Some _ _ e)
 
 -- one of two branches gave it
-pub branch : {A : Type 0} (P : Type 0) (c : Bool) (a b : Option A) (y : A) → (c ≡ true → a ≡ Some y → P) → (c ≡ false → b ≡ Some y → P) →
+pub branch : {A : Type 0} (P : Type 0) (c : Bool) (a b : Option A) (y : A) → (c ≡ true → a ≡ Some y → P) →
+    (c ≡ false → b ≡ Some y → P) →
     (if c then a else b) ≡ Some y → P
 branch P true a b y first second e = first refl e
 branch P false a b y first second e = second refl e
@@ -38,13 +41,15 @@ pub same_text : (a b : List ℕ) → bytes_eq a b ≡ true → a ≡ b
 same_text a b e = (bytes_eq-Decides a b).0 e
 
 -- the symbol that a test passes
-after_found : (test : Symbol → Bool) (s : Symbol) → ((t : Symbol) → test t ≡ true → t ≡ s) → (ts rest : List Tok) → after test ts ≡ Some rest → ts ≡ symbol s ∷ rest
+after_found : (test : Symbol → Bool) (s : Symbol) → ((t : Symbol) → test t ≡ true → t ≡ s) → (ts rest : List Tok) →
+    after test ts ≡ Some rest → ts ≡ symbol s ∷ rest
 unfolding after
 after_found test s is [] rest e = cc
 after_found test s is (name w ∷ ts) rest e = cc
 after_found test s is (number z ∷ ts) rest e = cc
 after_found test s is (symbol t ∷ ts) rest e = branch (symbol t ∷ ts ≡ symbol s ∷ rest) (test t) (Some ts) None rest
-    (λ passes same. ap (λ (t : Symbol). symbol t ∷ ts) (is t passes) ∙ ap (λ (r : List Tok). symbol s ∷ r) (same_Some _ _ same))
+    (λ passes same. ap (λ (t : Symbol). symbol t ∷ ts) (is t passes) ∙ ap (λ (r : List Tok). symbol s ∷ r)
+    (same_Some _ _ same))
     (λ fails never. none _ rest never) e
 
 pub only_open : (t : Symbol) → is_open t ≡ true → t ≡ symbols.Open
@@ -124,7 +129,8 @@ unfolding field_at
 field_found [] r e = cc
 field_found (name w ∷ ts) r e =
     let found = map_ok (λ (f : Field). (f, ts)) (field_named w) r e in
-    ap (λ (w : List ℕ). name w ∷ ts) (word_of_field w found.0 found.1) ∙ ap (λ (r : Field × List Tok). name (field_word r.0) ∷ r.1) found.2
+    ap (λ (w : List ℕ). name w ∷ ts) (word_of_field w found.0 found.1) ∙ ap
+    (λ (r : Field × List Tok). name (field_word r.0) ∷ r.1) found.2
 field_found (number z ∷ ts) r e = cc
 field_found (symbol s ∷ ts) r e = cc
 
@@ -142,9 +148,11 @@ symbol_of_operator s o e = cc
 
 word_of_operator : (w : List ℕ) (o : Op) → operator_named w ≡ Some o → name w ≡ op_token o
 word_of_operator w o = branch (name w ≡ op_token o) (bytes_eq w (codes "min")) _ _ o
-    (λ is e. ap (λ (w : List ℕ). name w) (same_text w (codes "min") is) ∙ ap (λ (o : Op). op_token o) (same_Some op.Min o e))
+    (λ is e. ap (λ (w : List ℕ). name w) (same_text w (codes "min") is) ∙ ap (λ (o : Op). op_token o)
+    (same_Some op.Min o e))
     (λ not_min. branch (name w ≡ op_token o) (bytes_eq w (codes "max")) _ _ o
-    (λ is e. ap (λ (w : List ℕ). name w) (same_text w (codes "max") is) ∙ ap (λ (o : Op). op_token o) (same_Some op.Max o e))
+    (λ is e. ap (λ (w : List ℕ). name w) (same_text w (codes "max") is) ∙ ap (λ (o : Op). op_token o)
+    (same_Some op.Max o e))
     (λ not_max e. none _ o e))
 
 pub operator_found : (ts : List Tok) (r : Op × List Tok) → operator ts ≡ Some r → ts ≡ op_token r.0 ∷ r.1
@@ -152,10 +160,12 @@ unfolding operator
 operator_found [] r e = cc
 operator_found (symbol s ∷ ts) r e =
     let found = map_ok (λ (o : Op). (o, ts)) (operator_by s) r e in
-    ap (λ (k : Tok). k ∷ ts) (symbol_of_operator s found.0 found.1) ∙ ap (λ (r : Op × List Tok). op_token r.0 ∷ r.1) found.2
+    ap (λ (k : Tok). k ∷ ts) (symbol_of_operator s found.0 found.1) ∙ ap
+    (λ (r : Op × List Tok). op_token r.0 ∷ r.1) found.2
 operator_found (name w ∷ ts) r e =
     let found = map_ok (λ (o : Op). (o, ts)) (operator_named w) r e in
-    ap (λ (k : Tok). k ∷ ts) (word_of_operator w found.0 found.1) ∙ ap (λ (r : Op × List Tok). op_token r.0 ∷ r.1) found.2
+    ap (λ (k : Tok). k ∷ ts) (word_of_operator w found.0 found.1) ∙ ap
+    (λ (r : Op × List Tok). op_token r.0 ∷ r.1) found.2
 operator_found (number z ∷ ts) r e = cc
 
 -- the number is below the end and below 2 ^ 32, and its name is the one that was looked for
@@ -166,15 +176,30 @@ pub record IsNumberFrom (i : ℕ) (names : List (List ℕ)) (w : List ℕ) (k : 
   pub name : get_or names place [] ≡ w
   pub low : k < 2 ^ 32
 
-from_at : (w : List ℕ) (i : ℕ) (n : List ℕ) (ns : List (List ℕ)) (k : ℕ) → (number_from w (i + 1) ns ≡ Some k → IsNumberFrom (i + 1) ns w k) →
+from_at : (w : List ℕ) (i : ℕ) (n : List ℕ) (ns : List (List ℕ)) (k : ℕ) →
+    (number_from w (i + 1) ns ≡ Some k → IsNumberFrom (i + 1) ns w k) →
     number_from w i (n ∷ ns) ≡ Some k → IsNumberFrom i (n ∷ ns) w k
 from_at w i n ns k more = branch (IsNumberFrom i (n ∷ ns) w k) (bytes_eq n w) (in_u32 i) (number_from w (i + 1) ns) k
     (λ is. branch (IsNumberFrom i (n ∷ ns) w k) (nat_lt i (2 ^ 32)) (Some i) None k
     (λ low e. let same : i ≡ k = same_Some _ _ e in
-    record { place = 0; counted = omega (arith, same); there = omega arith; name = same_text n w is; low = grind (arith, nat_tests, same) })
+    record {
+      place = 0;
+      counted = omega (arith, same);
+      there = omega arith;
+      name = same_text n w is;
+      low = grind
+          (arith, nat_tests, same);
+    })
     (λ high e. none _ k e))
     (λ isnt e. let found = more e in
-    record { place = suc found.place; counted = omega (arith, found.counted); there = omega (arith, found.there); name = found.name; low = found.low })
+    record {
+      place = suc found.place;
+      counted = omega (arith, found.counted);
+      there = omega
+          (arith, found.there);
+      name = found.name;
+      low = found.low;
+    })
 
 from_found : (w : List ℕ) (i : ℕ) (ns : List (List ℕ)) (k : ℕ) → number_from w i ns ≡ Some k → IsNumberFrom i ns w k
 from_found w i [] k e = none _ k e
@@ -189,7 +214,8 @@ pub record IsNumberIn (names : List (List ℕ)) (w : List ℕ) (k : ℕ) : Type 
 is_below : (k n : ℕ) → k < n → nat_lt k n ≡ true
 is_below k n h = grind (arith, nat_tests)
 
-found_by : (names : List (List ℕ)) (w : List ℕ) (o : Option ℕ) → number_of names w ≡ o → (known_or_zero o).1 ≡ true → IsNumberIn names w (known_or_zero o).0
+found_by : (names : List (List ℕ)) (w : List ℕ) (o : Option ℕ) → number_of names w ≡ o → (known_or_zero o).1 ≡ true →
+    IsNumberIn names w (known_or_zero o).0
 unfolding number_of
 found_by names w None e h = cc
 found_by names w (Some k) e h =
@@ -201,7 +227,8 @@ found_by names w (Some k) e h =
       low = found.low;
     }
 
-pub number_in_found : (names : List (List ℕ)) (w : List ℕ) → (number_in names w).1 ≡ true → IsNumberIn names w (number_in names w).0
+pub number_in_found : (names : List (List ℕ)) (w : List ℕ) → (number_in names w).1 ≡ true →
+    IsNumberIn names w (number_in names w).0
 unfolding number_in
 number_in_found names w h = found_by names w (number_of names w) refl h
 
@@ -209,7 +236,8 @@ pub whole_found : {A : Type 0} (a : A) (ts : List Tok) (r : A) → whole a ts �
 whole_found a [] r e = (refl, same_Some _ _ e)
 whole_found a (t ∷ ts) r e = cc
 
-pub declared_found : (ts : List Tok) (r : List ℕ × List Tok) → declared ts ≡ Some r → (ts ≡ name r.0 ∷ r.1) × (is_free r.0 ≡ true)
+pub declared_found : (ts : List Tok) (r : List ℕ × List Tok) → declared ts ≡ Some r →
+    (ts ≡ name r.0 ∷ r.1) × (is_free r.0 ≡ true)
 unfolding declared
 declared_found ts r e =
     let w = bind_ok (name_at ts) _ r e in

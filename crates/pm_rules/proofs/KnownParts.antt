@@ -26,10 +26,12 @@ both false y e = cc
 pub below : (k n : ℕ) → nat_lt k n ≡ true → k < n
 below k n e = grind (arith, nat_tests)
 
-pub bin_parts : (k : Known) (o : Op) (a b : Expr) → is_known k (Bin o a b) ≡ true → (is_known k a ≡ true) × (is_known k b ≡ true)
+pub bin_parts : (k : Known) (o : Op) (a b : Expr) → is_known k (Bin o a b) ≡ true →
+    (is_known k a ≡ true) × (is_known k b ≡ true)
 bin_parts k o a b known = both (is_known k a) (is_known k b) (sym (known-Bin k o a b) ∙ known)
 
-pub member_parts : (rows : List ClassRow) (k : Known) (class : ℕ) (at : Expr) → place_known rows k (Member class at) ≡ true →
+pub member_parts : (rows : List ClassRow) (k : Known) (class : ℕ) (at : Expr) →
+    place_known rows k (Member class at) ≡ true →
     (nat_lt 0 (class_row rows class).count ≡ true) × (is_known k at ≡ true)
 member_parts rows k class at known = both (nat_lt 0 (class_row rows class).count) (is_known k at) known
 
@@ -43,7 +45,8 @@ pub record ScanParts (rows : List ClassRow) (k : Known) (class : ℕ) (x0 x1 y0 
 pub scan_parts : (rows : List ClassRow) (k : Known) (class : ℕ) (x0 x1 y0 y1 : Expr) →
     sense_known rows k (sense.Scan class x0 x1 y0 y1) ≡ true → ScanParts rows k class x0 x1 y0 y1
 scan_parts rows k class x0 x1 y0 y1 known =
-    let parts = both (nat_lt class (length rows) && (is_known k x0 && is_known k x1)) (is_known k y0 && is_known k y1) known in
+    let parts =
+    both (nat_lt class (length rows) && (is_known k x0 && is_known k x1)) (is_known k y0 && is_known k y1) known in
     let front = both (nat_lt class (length rows)) (is_known k x0 && is_known k x1) parts.0 in
     let across = both (is_known k x0) (is_known k x1) front.1 in
     let along = both (is_known k y0) (is_known k y1) parts.1 in
@@ -54,7 +57,8 @@ pub record ChangeParts (rows : List ClassRow) (k : Known) (p : Place) (x y : Exp
   pub x_known : is_known k x ≡ true
   pub y_known : is_known k y ≡ true
 
-pub change_parts : (rows : List ClassRow) (k : Known) (p : Place) (x y : Expr) → change_known rows k p x y ≡ true → ChangeParts rows k p x y
+pub change_parts : (rows : List ClassRow) (k : Known) (p : Place) (x y : Expr) → change_known rows k p x y ≡ true →
+    ChangeParts rows k p x y
 change_parts rows k p x y known =
     let parts = both (place_known rows k p) (is_known k x && is_known k y) known in
     let values = both (is_known k x) (is_known k y) parts.1 in
@@ -68,8 +72,10 @@ let_parts sc version reg e known =
 pub add_parts : (sc : Scope) (version : ℕ) (p : Place) (x y : Expr) → does_sayable sc version (Add p x y) ≡ true →
     ((version == 2) ≡ true) × (change_known (class_rows sc.table) (known_in sc) p x y ≡ true)
 add_parts sc version p x y known =
-    both (version == 2) (change_known (class_rows sc.table) (known_in sc) p x y) (sym (sayable-Add sc version p x y) ∙ known)
+    both (version == 2) (change_known (class_rows sc.table) (known_in sc) p x y)
+    (sym (sayable-Add sc version p x y) ∙ known)
 
-pub if_unsayable : (sc : Scope) (version : ℕ) (test : Expr) (first second : List Stmt) → ¬ (does_sayable sc version (If test first second) ≡ true)
+pub if_unsayable : (sc : Scope) (version : ℕ) (test : Expr) (first second : List Stmt) →
+    ¬ (does_sayable sc version (If test first second) ≡ true)
 if_unsayable sc version test first second known =
     let never : false ≡ true = sym (sayable-If sc version test first second) ∙ known in cc

@@ -1,7 +1,9 @@
 pub mod BackwardLaws
 pub mod CanonicalLaws
+pub mod DraftLaws
 pub mod FineLaws
 pub mod FittingLines
+pub mod FittingSenses
 pub mod Found
 pub mod IdleLaws
 pub mod KnownParts
@@ -12,6 +14,7 @@ pub mod LinesWereSpelled
 pub mod MatchedLaws
 pub mod NamesLaws
 pub mod NestingLaws
+pub mod ProgramLaws
 pub mod ReadAgain
 pub mod RowLaws
 pub mod ScopeLaws
@@ -20,5 +23,3 @@ pub mod SpellingCounts
 pub mod SpellingEquations
 pub mod Variants
 pub mod WasSpelled
-pub mod DraftLaws
-pub mod ProgramLaws

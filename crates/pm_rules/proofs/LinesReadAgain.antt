@@ -21,7 +21,8 @@ use Rattle.pm_rules.proofs.SpellingCounts.{change_counted, expression_counted, s
 use Rattle.pm_rules.proofs.SpellingEquations.{does-Let, does-Set, does-Add, does-Wait, sayable-Set, sayable-Wait}
 use Rattle.pm_rules.proofs.Variants.{every_statement}
 
-reg_read : (sc : Scope) (version : ℕ) (w : List ℕ) (z : ℤ) → is_free w ≡ true → statement sc version (spell_said sc (said.Reg w z)) ≡ Some (said.Reg w z, true)
+reg_read : (sc : Scope) (version : ℕ) (w : List ℕ) (z : ℤ) → is_free w ≡ true →
+    statement sc version (spell_said sc (said.Reg w z)) ≡ Some (said.Reg w z, true)
 unfolding statement after_word reg_line declared name_at number_at
 reg_read sc version w z free = rw free refl
 
@@ -32,15 +33,23 @@ unfolding statement after_word read_line assigned declared name_at after
 read_read sc version w p d free known low = rw (free, place_alone sc d p known (omega arith)) refl
 
 scan_read : (sc : Scope) (version : ℕ) (w : List ℕ) (class : ℕ) (x0 x1 y0 y1 : Expr) → IsScope sc → is_free w ≡ true →
-    sense_known (class_rows sc.table) (known_in sc) (sense.Scan class x0 x1 y0 y1) ≡ true → sense_tokens (sense.Scan class x0 x1 y0 y1) ≤ 64 →
-    statement sc version (spell_sense sc w (sense.Scan class x0 x1 y0 y1)) ≡ Some (said.Sense w (sense.Scan class x0 x1 y0 y1), true)
+    sense_known (class_rows sc.table) (known_in sc) (sense.Scan class x0 x1 y0 y1) ≡ true →
+    sense_tokens (sense.Scan class x0 x1 y0 y1) ≤ 64 →
+    statement sc version (spell_sense sc w (sense.Scan class x0 x1 y0 y1)) ≡
+    Some (said.Sense w (sense.Scan class x0 x1 y0 y1), true)
 unfolding statement after_word scan_line assigned declared name_at after window two
 scan_read sc version w class x0 x1 y0 y1 d free known low =
     let parts = scan_parts (class_rows sc.table) (known_in sc) class x0 x1 y0 y1 known in
-    let there : class < length (class_names sc.table) = omega (arith, same_length sc.table, below class (length (class_rows sc.table)) parts.class_there) in
-    let first = expression_read sc d x0 64 (spell sc x1 ++ (spell sc y0 ++ spell sc y1)) parts.x0_known (omega arith) (begins_without_dot sc x1 (spell sc y0 ++ spell sc y1)) in
-    let second = expression_read sc d x1 64 (spell sc y0 ++ spell sc y1) parts.x1_known (omega arith) (begins_without_dot sc y0 (spell sc y1)) in
-    let third = expression_read sc d y0 64 (spell sc y1) parts.y0_known (omega arith) (begins_alone_without_dot sc y1) in
+    let there : class < length (class_names sc.table) =
+    omega (arith, same_length sc.table, below class (length (class_rows sc.table)) parts.class_there) in
+    let first =
+    expression_read sc d x0 64 (spell sc x1 ++ (spell sc y0 ++ spell sc y1)) parts.x0_known (omega arith)
+    (begins_without_dot sc x1 (spell sc y0 ++ spell sc y1)) in
+    let second =
+    expression_read sc d x1 64 (spell sc y0 ++ spell sc y1) parts.x1_known (omega arith)
+    (begins_without_dot sc y0 (spell sc y1)) in
+    let third =
+    expression_read sc d y0 64 (spell sc y1) parts.y0_known (omega arith) (begins_alone_without_dot sc y1) in
     let fourth = expression_alone sc d y1 parts.y1_known (omega arith) in
     rw (free, first, second, third, fourth, number_again (class_names sc.table) d.classes class there) refl
 
@@ -48,21 +57,26 @@ sense_read : (sc : Scope) (version : ℕ) (w : List ℕ) (s : Sense) → IsScope
     sense_known (class_rows sc.table) (known_in sc) s ≡ true → sense_tokens s ≤ 64 →
     statement sc version (spell_sense sc w s) ≡ Some (said.Sense w s, true)
 sense_read sc version w (sense.Read p) d free known low = read_read sc version w p d free known low
-sense_read sc version w (sense.Scan class x0 x1 y0 y1) d free known low = scan_read sc version w class x0 x1 y0 y1 d free known low
+sense_read sc version w (sense.Scan class x0 x1 y0 y1) d free known low =
+    scan_read sc version w class x0 x1 y0 y1 d free known low
 
-if_read : (sc : Scope) (version : ℕ) (test : Expr) → IsScope sc → is_known (known_in sc) test ≡ true → tokens_of test ≤ 64 →
+if_read : (sc : Scope) (version : ℕ) (test : Expr) → IsScope sc → is_known (known_in sc) test ≡ true →
+    tokens_of test ≤ 64 →
     statement sc version (spell_said sc (said.If test)) ≡ Some (said.If test, true)
 unfolding statement after_word if_line only
 if_read sc version test d known low = rw (expression_alone sc d test known low) refl
 
 abbrev IsReadLine : Scope → ℕ → Stmt → Type 0
-IsReadLine sc version s = does_sayable sc version s ≡ true → length (spell_does sc s) ≤ 64 → statement sc version (spell_does sc s) ≡ Some (said.Does s, true)
+IsReadLine sc version s =
+    does_sayable sc version s ≡ true → length (spell_does sc s) ≤ 64 → statement sc version (spell_does sc s) ≡ Some
+    (said.Does s, true)
 
 let_read : (sc : Scope) (version : ℕ) → IsScope sc → (reg : ℕ) (e : Expr) → IsReadLine sc version (Let reg e)
 unfolding statement after_word let_line name_at after
 let_read sc version d reg e known low =
     let parts = let_parts sc version reg e known in
-    let fits : tokens_of e ≤ 64 = omega (arith, low, ap (λ (ts : List Tok). length ts) (does-Let sc reg e), expression_counted sc e) in
+    let fits : tokens_of e ≤ 64 =
+    omega (arith, low, ap (λ (ts : List Tok). length ts) (does-Let sc reg e), expression_counted sc e) in
     rw (
       does-Let sc reg e,
       expression_alone sc d e parts.1 fits,
@@ -72,7 +86,8 @@ let_read sc version d reg e known low =
 wait_read : (sc : Scope) (version : ℕ) → IsScope sc → (e : Expr) → IsReadLine sc version (Wait e)
 unfolding statement after_word wait_line only
 wait_read sc version d e known low =
-    let fits : tokens_of e ≤ 64 = omega (arith, low, ap (λ (ts : List Tok). length ts) (does-Wait sc e), expression_counted sc e) in
+    let fits : tokens_of e ≤ 64 =
+    omega (arith, low, ap (λ (ts : List Tok). length ts) (does-Wait sc e), expression_counted sc e) in
     rw (does-Wait sc e, expression_alone sc d e (sym (sayable-Wait sc version e) ∙ known) fits) refl
 
 assign_no_bracket : (ts : List Tok) → after is_left (symbol symbols.Assign ∷ ts) ≡ None
@@ -84,30 +99,47 @@ unfolding after
 comma_no_dot ts = refl
 
 -- PLACE = EXPR , EXPR
-change_read : (sc : Scope) → IsScope sc → (p : Place) (x y : Expr) → change_known (class_rows sc.table) (known_in sc) p x y ≡ true →
+change_read : (sc : Scope) → IsScope sc → (p : Place) (x y : Expr) →
+    change_known (class_rows sc.table) (known_in sc) p x y ≡ true →
     change_tokens p x y ≤ 64 →
-    change sc (spell_place sc p ++ (symbol symbols.Assign ∷ (spell sc x ++ (symbol symbols.Comma ∷ spell sc y)))) ≡ Some ((p, (x, y)), true)
+    change sc (spell_place sc p ++ (symbol symbols.Assign ∷ (spell sc x ++ (symbol symbols.Comma ∷ spell sc y)))) ≡
+    Some ((p, (x, y)), true)
 unfolding change after
 change_read sc d p x y known low =
     let parts = change_parts (class_rows sc.table) (known_in sc) p x y known in
     let tail = spell sc x ++ (symbol symbols.Comma ∷ spell sc y) in
     rw (
       place_read sc d p (symbol symbols.Assign ∷ tail) parts.place_there (omega arith) (assign_no_bracket tail),
-      expression_read sc d x 64 (symbol symbols.Comma ∷ spell sc y) parts.x_known (omega arith) (comma_no_dot (spell sc y)),
+      expression_read sc d x 64 (symbol symbols.Comma ∷ spell sc y) parts.x_known (omega arith)
+          (comma_no_dot (spell sc y)),
       expression_alone sc d y parts.y_known (omega arith),
     ) refl
 
 set_read : (sc : Scope) (version : ℕ) → IsScope sc → (p : Place) (x y : Expr) → IsReadLine sc version (Set p x y)
 unfolding statement after_word set_line
 set_read sc version d p x y known low =
-    let fits : change_tokens p x y ≤ 64 = omega (arith, low, ap (λ (ts : List Tok). length ts) (does-Set sc p x y), change_counted sc (codes "set") p x y) in
+    let fits : change_tokens p x y ≤ 64 =
+    omega (
+      arith,
+      low,
+      ap (λ (ts : List Tok). length ts) (does-Set sc p x y),
+      change_counted sc
+          (codes "set") p x y,
+    ) in
     rw (does-Set sc p x y, change_read sc d p x y (sym (sayable-Set sc version p x y) ∙ known) fits) refl
 
 add_read : (sc : Scope) (version : ℕ) → IsScope sc → (p : Place) (x y : Expr) → IsReadLine sc version (Add p x y)
 unfolding statement after_word add_line
 add_read sc version d p x y known low =
     let parts = add_parts sc version p x y known in
-    let fits : change_tokens p x y ≤ 64 = omega (arith, low, ap (λ (ts : List Tok). length ts) (does-Add sc p x y), change_counted sc (codes "add") p x y) in
+    let fits : change_tokens p x y ≤ 64 =
+    omega (
+      arith,
+      low,
+      ap (λ (ts : List Tok). length ts) (does-Add sc p x y),
+      change_counted sc
+          (codes "add") p x y,
+    ) in
     rw (does-Add sc p x y, parts.0, change_read sc d p x y parts.1 fits) refl
 
 does_read : (sc : Scope) (version : ℕ) → IsScope sc → (s : Stmt) → IsReadLine sc version s
@@ -128,13 +160,15 @@ unfolding statement after_word
 end_read sc version = refl
 
 -- a spelled line of at most 64 tokens is read
-pub line_read : (sc : Scope) (version : ℕ) → IsScope sc → (s : Said) → is_sayable sc version s ≡ true → length (spell_said sc s) ≤ 64 →
+pub line_read : (sc : Scope) (version : ℕ) → IsScope sc → (s : Said) → is_sayable sc version s ≡ true →
+    length (spell_said sc s) ≤ 64 →
     statement sc version (spell_said sc s) ≡ Some (s, true)
 line_read sc version d (said.Reg w z) known low = reg_read sc version w z known
 line_read sc version d (said.Sense w s) known low =
     let parts = both (is_free w) (sense_known (class_rows sc.table) (known_in sc) s) known in
     sense_read sc version w s d parts.0 parts.1 (omega (arith, low, sense_counted sc w s))
 line_read sc version d (said.Does s) known low = does_read sc version d s known low
-line_read sc version d (said.If test) known low = if_read sc version test d known (omega (arith, low, expression_counted sc test))
+line_read sc version d (said.If test) known low =
+    if_read sc version test d known (omega (arith, low, expression_counted sc test))
 line_read sc version d said.Else known low = else_read sc version
 line_read sc version d said.End known low = end_read sc version

@@ -77,10 +77,12 @@ begins_without_dot sc = every_expression (λ e. (rest : List Tok) → after is_d
 })
 
 pub begins_alone_without_dot : (sc : Scope) (e : Expr) → after is_dot (spell sc e) ≡ None
-begins_alone_without_dot sc e = subst (λ (ts : List Tok). after is_dot ts ≡ None) (append-nil (spell sc e)) (begins_without_dot sc e [])
+begins_alone_without_dot sc e =
+    subst (λ (ts : List Tok). after is_dot ts ≡ None) (append-nil (spell sc e)) (begins_without_dot sc e [])
 
 -- the number of a name that stands once
-pub number_again : (names : List (List ℕ)) → AreDistinct names → (k : ℕ) → k < length names → number_in names (get_or names k []) ≡ (k, true)
+pub number_again : (names : List (List ℕ)) → AreDistinct names → (k : ℕ) → k < length names →
+    number_in names (get_or names k []) ≡ (k, true)
 unfolding number_in
 number_again names d k h = rw (d k h) refl
 
@@ -102,7 +104,8 @@ not_me w e = grind (arith, common_steps)
 
 -- it is read again from as many levels on as it has tokens, whatever follows but a dot
 abbrev pub IsReadAgain : Scope → Expr → Type 0
-IsReadAgain sc e = (n : ℕ) (rest : List Tok) → is_known (known_in sc) e ≡ true → tokens_of e ≤ n → after is_dot rest ≡ None →
+IsReadAgain sc e =
+    (n : ℕ) (rest : List Tok) → is_known (known_in sc) e ≡ true → tokens_of e ≤ n → after is_dot rest ≡ None →
     expression sc n (spell sc e ++ rest) ≡ Some ((e, true), rest)
 
 num_again : (sc : Scope) (z : ℤ) → IsReadAgain sc (Num z)
@@ -152,9 +155,12 @@ part_again sc d k f (suc n) rest known low nodot =
 
 pub regroup : (a b rest : List Tok) (o : Tok) →
     (a ++ (o ∷ (b ++ symbol symbols.Close ∷ []))) ++ rest ≡ a ++ (o ∷ (b ++ (symbol symbols.Close ∷ rest)))
-regroup a b rest o = append_assoc a (o ∷ (b ++ symbol symbols.Close ∷ [])) rest ∙ ap (λ (t : List Tok). a ++ (o ∷ t)) (append_assoc b (symbol symbols.Close ∷ []) rest)
+regroup a b rest o =
+    append_assoc a (o ∷ (b ++ symbol symbols.Close ∷ [])) rest ∙ ap (λ (t : List Tok). a ++ (o ∷ t))
+    (append_assoc b (symbol symbols.Close ∷ []) rest)
 
-closed_again : (o : Op) (a b : Expr) (rest : List Tok) → closed o (a, true) (b, true) (symbol symbols.Close ∷ rest) ≡ Some ((Bin o a b, true), rest)
+closed_again : (o : Op) (a b : Expr) (rest : List Tok) →
+    closed o (a, true) (b, true) (symbol symbols.Close ∷ rest) ≡ Some ((Bin o a b, true), rest)
 unfolding closed after joined
 closed_again o a b rest = refl
 
@@ -199,7 +205,8 @@ no_dot_at_end = refl
 pub expression_alone : (sc : Scope) → IsScope sc → (e : Expr) → is_known (known_in sc) e ≡ true → tokens_of e ≤ 64 →
     expr sc (spell sc e) ≡ Some ((e, true), [])
 expression_alone sc d e known low =
-    subst (λ (ts : List Tok). expression sc 64 ts ≡ Some ((e, true), [])) (append-nil (spell sc e)) (expression_read sc d e 64 [] known low no_dot_at_end)
+    subst (λ (ts : List Tok). expression sc 64 ts ≡ Some ((e, true), [])) (append-nil (spell sc e))
+    (expression_read sc d e 64 [] known low no_dot_at_end)
 
 -- a class with a member is there
 pub class_there : (rows : List ClassRow) (k : ℕ) → nat_lt 0 (class_row rows k).count ≡ true → k < length rows
@@ -208,12 +215,16 @@ class_there (r ∷ rs) zero e = omega arith
 class_there (r ∷ rs) (suc k) e = omega (arith, class_there rs k e)
 
 pub same_length : (t : Table) → length (class_names t) ≡ length (class_rows t)
-same_length t = length-map t.classes (λ (c : List ℕ × ClassRow). c.0) ∙ sym (length-map t.classes (λ (c : List ℕ × ClassRow). c.1))
+same_length t =
+    length-map t.classes (λ (c : List ℕ × ClassRow). c.0) ∙ sym
+    (length-map t.classes (λ (c : List ℕ × ClassRow). c.1))
 
-var_again : (sc : Scope) → IsScope sc → (v : ℕ) (rest : List Tok) → nat_lt v (length sc.table.vars) ≡ true → after is_left rest ≡ None →
+var_again : (sc : Scope) → IsScope sc → (v : ℕ) (rest : List Tok) → nat_lt v (length sc.table.vars) ≡ true →
+    after is_left rest ≡ None →
     place sc (spell_place sc (Var v) ++ rest) ≡ Some ((Var v, true), rest)
 unfolding place name_at variable
-var_again sc d v rest known nobracket = rw (nobracket, number_again sc.table.vars d.vars v (below v (length sc.table.vars) known)) refl
+var_again sc d v rest known nobracket =
+    rw (nobracket, number_again sc.table.vars d.vars v (below v (length sc.table.vars) known)) refl
 
 member_again : (sc : Scope) → IsScope sc → (class : ℕ) (at : Expr) (rest : List Tok) →
     place_known (class_rows sc.table) (known_in sc) (Member class at) ≡ true → place_tokens (Member class at) ≤ 64 →
@@ -221,7 +232,8 @@ member_again : (sc : Scope) → IsScope sc → (class : ℕ) (at : Expr) (rest :
 unfolding place name_at after indexed
 member_again sc d class at rest known low =
     let parts = member_parts (class_rows sc.table) (known_in sc) class at known in
-    let there : class < length (class_names sc.table) = omega (arith, same_length sc.table, class_there (class_rows sc.table) class parts.0) in
+    let there : class < length (class_names sc.table) =
+    omega (arith, same_length sc.table, class_there (class_rows sc.table) class parts.0) in
     let index = expression_read sc d at 64 (symbol symbols.RightBracket ∷ rest) parts.1 (omega arith) refl in
     rw (
       append_assoc (spell sc at) (symbol symbols.RightBracket ∷ []) rest,
@@ -231,7 +243,8 @@ member_again sc d class at rest known low =
     ) refl
 
 -- a spelled place is read, whatever follows but a bracket
-pub place_read : (sc : Scope) → IsScope sc → (p : Place) (rest : List Tok) → place_known (class_rows sc.table) (known_in sc) p ≡ true →
+pub place_read : (sc : Scope) → IsScope sc → (p : Place) (rest : List Tok) →
+    place_known (class_rows sc.table) (known_in sc) p ≡ true →
     place_tokens p ≤ 64 → after is_left rest ≡ None → place sc (spell_place sc p ++ rest) ≡ Some ((p, true), rest)
 place_read sc d (Var v) rest known low nobracket = var_again sc d v rest known nobracket
 place_read sc d (Member class at) rest known low nobracket = member_again sc d class at rest known low
@@ -240,7 +253,9 @@ no_bracket_at_end : after is_left [] ≡ None
 unfolding after
 no_bracket_at_end = refl
 
-pub place_alone : (sc : Scope) → IsScope sc → (p : Place) → place_known (class_rows sc.table) (known_in sc) p ≡ true → place_tokens p ≤ 64 →
+pub place_alone : (sc : Scope) → IsScope sc → (p : Place) → place_known (class_rows sc.table) (known_in sc) p ≡ true →
+    place_tokens p ≤ 64 →
     place sc (spell_place sc p) ≡ Some ((p, true), [])
 place_alone sc d p known low =
-    subst (λ (ts : List Tok). place sc ts ≡ Some ((p, true), [])) (append-nil (spell_place sc p)) (place_read sc d p [] known low no_bracket_at_end)
+    subst (λ (ts : List Tok). place sc ts ≡ Some ((p, true), [])) (append-nil (spell_place sc p))
+    (place_read sc d p [] known low no_bracket_at_end)

@@ -22,7 +22,8 @@ use Rattle.pm_rules.proofs.SpellingEquations.{spell-Num, spell-Now, spell-Me, sp
 use Rattle.pm_rules.proofs.KnownParts.{add_parts, below, bin_parts, both, change_parts, if_unsayable, let_parts, member_parts, scan_parts}
 use Rattle.pm_rules.proofs.Variants.{every_expression, every_statement}
 
-name_kept : (names more : List (List ℕ)) (k : ℕ) → nat_lt k (length names) ≡ true → get_or (names ++ more) k [] ≡ get_or names k []
+name_kept : (names more : List (List ℕ)) (k : ℕ) → nat_lt k (length names) ≡ true →
+    get_or (names ++ more) k [] ≡ get_or names k []
 name_kept names more k e = get_or_append_left names more [] k (below k (length names) e)
 
 abbrev IsKept : Scope → List (List ℕ) → List (List ℕ) → Expr → Type 0
@@ -30,13 +31,24 @@ IsKept sc regs senses e = is_known (known_in sc) e ≡ true → spell (extended 
 
 reg_kept : (sc : Scope) (regs senses : List (List ℕ)) (r : ℕ) → IsKept sc regs senses (Reg r)
 reg_kept sc regs senses r known =
-    rw (spell-Reg (extended sc regs senses) r, spell-Reg sc r, name_kept sc.regs regs r (sym (known-Reg (known_in sc) r) ∙ known)) refl
+    rw (
+      spell-Reg (extended sc regs senses) r,
+      spell-Reg sc r,
+      name_kept sc.regs regs r
+          (sym (known-Reg (known_in sc) r) ∙ known),
+    ) refl
 
 part_kept : (sc : Scope) (regs senses : List (List ℕ)) (k : ℕ) (f : Field) → IsKept sc regs senses (Part k f)
 part_kept sc regs senses k f known =
-    rw (spell-Part (extended sc regs senses) k f, spell-Part sc k f, name_kept sc.senses senses k (sym (known-Part (known_in sc) k f) ∙ known)) refl
+    rw (
+      spell-Part (extended sc regs senses) k f,
+      spell-Part sc k f,
+      name_kept sc.senses senses k
+          (sym (known-Part (known_in sc) k f) ∙ known),
+    ) refl
 
-bin_kept : (sc : Scope) (regs senses : List (List ℕ)) (o : Op) (a b : Expr) → IsKept sc regs senses a → IsKept sc regs senses b →
+bin_kept : (sc : Scope) (regs senses : List (List ℕ)) (o : Op) (a b : Expr) → IsKept sc regs senses a →
+    IsKept sc regs senses b →
     IsKept sc regs senses (Bin o a b)
 bin_kept sc regs senses o a b ka kb known =
     let parts = bin_parts (known_in sc) o a b known in
@@ -55,13 +67,16 @@ expression_kept sc regs senses = every_expression (IsKept sc regs senses) (recor
 })
 
 -- a place
-pub place_kept : (sc : Scope) (regs senses : List (List ℕ)) (p : Place) → place_known (class_rows sc.table) (known_in sc) p ≡ true →
+pub place_kept : (sc : Scope) (regs senses : List (List ℕ)) (p : Place) →
+    place_known (class_rows sc.table) (known_in sc) p ≡ true →
     spell_place (extended sc regs senses) p ≡ spell_place sc p
 place_kept sc regs senses (Var v) known = refl
-place_kept sc regs senses (Member class at) known = rw (expression_kept sc regs senses at (member_parts (class_rows sc.table) (known_in sc) class at known).1) refl
+place_kept sc regs senses (Member class at) known =
+    rw (expression_kept sc regs senses at (member_parts (class_rows sc.table) (known_in sc) class at known).1) refl
 
 -- a sense
-pub sense_kept : (sc : Scope) (regs senses : List (List ℕ)) (w : List ℕ) (s : Sense) → sense_known (class_rows sc.table) (known_in sc) s ≡ true →
+pub sense_kept : (sc : Scope) (regs senses : List (List ℕ)) (w : List ℕ) (s : Sense) →
+    sense_known (class_rows sc.table) (known_in sc) s ≡ true →
     spell_sense (extended sc regs senses) w s ≡ spell_sense sc w s
 sense_kept sc regs senses w (sense.Read p) known = rw (place_kept sc regs senses p known) refl
 sense_kept sc regs senses w (sense.Scan class x0 x1 y0 y1) known =
@@ -85,9 +100,11 @@ change_kept sc regs senses w p x y known =
     ) refl
 
 abbrev DoesKept : Scope → List (List ℕ) → List (List ℕ) → ℕ → Stmt → Type 0
-DoesKept sc regs senses version s = does_sayable sc version s ≡ true → spell_does (extended sc regs senses) s ≡ spell_does sc s
+DoesKept sc regs senses version s =
+    does_sayable sc version s ≡ true → spell_does (extended sc regs senses) s ≡ spell_does sc s
 
-let_kept : (sc : Scope) (regs senses : List (List ℕ)) (version reg : ℕ) (e : Expr) → DoesKept sc regs senses version (Let reg e)
+let_kept : (sc : Scope) (regs senses : List (List ℕ)) (version reg : ℕ) (e : Expr) →
+    DoesKept sc regs senses version (Let reg e)
 let_kept sc regs senses version reg e known =
     let parts = let_parts sc version reg e known in
     rw (
@@ -97,19 +114,22 @@ let_kept sc regs senses version reg e known =
       expression_kept sc regs senses e parts.1,
     ) refl
 
-set_kept : (sc : Scope) (regs senses : List (List ℕ)) (version : ℕ) (p : Place) (x y : Expr) → DoesKept sc regs senses version (Set p x y)
+set_kept : (sc : Scope) (regs senses : List (List ℕ)) (version : ℕ) (p : Place) (x y : Expr) →
+    DoesKept sc regs senses version (Set p x y)
 set_kept sc regs senses version p x y known =
     does-Set (extended sc regs senses) p x y
     ∙ change_kept sc regs senses (codes "set") p x y (sym (sayable-Set sc version p x y) ∙ known)
     ∙ sym (does-Set sc p x y)
 
-add_kept : (sc : Scope) (regs senses : List (List ℕ)) (version : ℕ) (p : Place) (x y : Expr) → DoesKept sc regs senses version (Add p x y)
+add_kept : (sc : Scope) (regs senses : List (List ℕ)) (version : ℕ) (p : Place) (x y : Expr) →
+    DoesKept sc regs senses version (Add p x y)
 add_kept sc regs senses version p x y known =
     does-Add (extended sc regs senses) p x y
     ∙ change_kept sc regs senses (codes "add") p x y (add_parts sc version p x y known).1
     ∙ sym (does-Add sc p x y)
 
-wait_kept : (sc : Scope) (regs senses : List (List ℕ)) (version : ℕ) (e : Expr) → DoesKept sc regs senses version (Wait e)
+wait_kept : (sc : Scope) (regs senses : List (List ℕ)) (version : ℕ) (e : Expr) →
+    DoesKept sc regs senses version (Wait e)
 wait_kept sc regs senses version e known =
     rw (
       does-Wait (extended sc regs senses) e,
@@ -130,7 +150,8 @@ does_kept sc regs senses version = every_statement (DoesKept sc regs senses vers
 pub said_kept : (sc : Scope) (regs senses : List (List ℕ)) (version : ℕ) (s : Said) → is_sayable sc version s ≡ true →
     spell_said (extended sc regs senses) s ≡ spell_said sc s
 said_kept sc regs senses version (said.Reg w z) known = refl
-said_kept sc regs senses version (said.Sense w s) known = sense_kept sc regs senses w s (both (is_free w) (sense_known (class_rows sc.table) (known_in sc) s) known).1
+said_kept sc regs senses version (said.Sense w s) known =
+    sense_kept sc regs senses w s (both (is_free w) (sense_known (class_rows sc.table) (known_in sc) s) known).1
 said_kept sc regs senses version (said.Does s) known = does_kept sc regs senses version s known
 said_kept sc regs senses version (said.If test) known = rw (expression_kept sc regs senses test known) refl
 said_kept sc regs senses version said.Else known = refl

@@ -7,7 +7,7 @@ use Rattle.std.proofs.lemmas.Bool.Decides.{nat_tests}
 use Rattle.pm_base.specs.Fits.{has_name, names_fit}
 use Rattle.pm_base.specs.Names.{is_name, is_reserved}
 use Rattle.pm_rules.specs.Grammar.{AreDistinct, IsTable}
-use Rattle.pm_rules.specs.Reading.{Scope, Table, in_u32, number_from, number_of}
+use Rattle.pm_rules.specs.Reading.{Table, number_from, number_of}
 use Rattle.pm_rules.specs.Sayable.{IsScope}
 use Rattle.pm_rules.specs.Statements.{is_free}
 use Rattle.pm_rules.proofs.KnownParts.{both}
@@ -47,7 +47,12 @@ pub names_left : (xs ys : List (List ℕ)) → names_fit (xs ++ ys) ≡ true →
 names_left [] ys e = refl
 names_left (x ∷ xs) ys e =
     let first = first_fits x (xs ++ ys) e in
-    names_made x xs (record { free = first.free; absent = absent_left x xs ys first.absent; rest = names_left xs ys first.rest })
+    names_made x xs (record {
+      free = first.free;
+      absent = absent_left x xs ys first.absent;
+      rest = names_left xs ys
+          first.rest;
+    })
 
 -- and the last ones
 pub names_right : (xs ys : List (List ℕ)) → names_fit (xs ++ ys) ≡ true → names_fit ys ≡ true
@@ -55,7 +60,8 @@ names_right [] ys e = e
 names_right (x ∷ xs) ys e = names_right xs ys (first_fits x (xs ++ ys) e).rest
 
 -- names that fit may be declared
-pub names_free : (names : List (List ℕ)) → names_fit names ≡ true → (k : ℕ) → k < length names → is_free (get_or names k []) ≡ true
+pub names_free : (names : List (List ℕ)) → names_fit names ≡ true → (k : ℕ) → k < length names →
+    is_free (get_or names k []) ≡ true
 names_free [] e k h = absurd (omega arith)
 names_free (n ∷ ns) e zero h = (first_fits n ns e).free
 names_free (n ∷ ns) e (suc k) h = names_free ns (first_fits n ns e).rest k (omega arith)
@@ -69,7 +75,8 @@ differ a b true is e =
     let never : true ≡ false = sym ((bytes_eq-Decides a b).1 (sym same)) ∙ e in cc
 differ a b false is e = refl
 
-absent_at : (n : List ℕ) (ns : List (List ℕ)) (k : ℕ) → has_name n ns ≡ false → k < length ns → bytes_eq n (get_or ns k []) ≡ false
+absent_at : (n : List ℕ) (ns : List (List ℕ)) (k : ℕ) → has_name n ns ≡ false → k < length ns →
+    bytes_eq n (get_or ns k []) ≡ false
 absent_at n [] k e h = absurd (omega arith)
 absent_at n (m ∷ ns) zero e h = differ m n (bytes_eq n m) refl (neither (bytes_eq m n) (has_name n ns) e).0
 absent_at n (m ∷ ns) (suc k) e h = absent_at n ns k (neither (bytes_eq m n) (has_name n ns) e).1 (omega arith)
@@ -86,7 +93,8 @@ numbered (n ∷ ns) i zero e low h =
 numbered (n ∷ ns) i (suc k) e low h =
     let first = first_fits n ns e in
     let next : i + 1 + k ≡ i + suc k = omega arith in
-    rw (absent_at n ns k first.absent (omega arith)) (numbered ns (i + 1) k first.rest (omega arith) (omega arith) ∙ ap (λ (j : ℕ). Some j) next)
+    rw (absent_at n ns k first.absent (omega arith))
+    (numbered ns (i + 1) k first.rest (omega arith) (omega arith) ∙ ap (λ (j : ℕ). Some j) next)
 
 -- names that fit are distinct
 pub names_distinct : (names : List (List ℕ)) → names_fit names ≡ true → length names ≤ 2 ^ 32 → AreDistinct names
@@ -96,7 +104,8 @@ names_distinct names e low k h =
     numbered names 0 k e (omega arith) h ∙ ap (λ (j : ℕ). Some j) first
 
 -- the scope of a table and of names that fit
-pub scope_made : (t : Table) (regs senses : List (List ℕ)) → IsTable t → names_fit (regs ++ senses) ≡ true → length regs ≤ 2 ^ 32 → length senses ≤ 2 ^ 32 →
+pub scope_made : (t : Table) (regs senses : List (List ℕ)) → IsTable t → names_fit (regs ++ senses) ≡ true →
+    length regs ≤ 2 ^ 32 → length senses ≤ 2 ^ 32 →
     IsScope (record { table = t; regs = regs; senses = senses })
 scope_made t regs senses is fit few_regs few_senses = record {
   classes = is.classes;

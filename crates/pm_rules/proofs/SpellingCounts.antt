@@ -41,7 +41,8 @@ expression_counted sc = every_expression (IsCounted sc) (record {
 
 pub place_counted : (sc : Scope) (p : Place) → length (spell_place sc p) ≡ place_tokens p
 place_counted sc (Var v) = refl
-place_counted sc (Member class at) = omega (arith, expression_counted sc at, length-append (spell sc at) (symbol symbols.RightBracket ∷ []))
+place_counted sc (Member class at) =
+    omega (arith, expression_counted sc at, length-append (spell sc at) (symbol symbols.RightBracket ∷ []))
 
 pub sense_counted : (sc : Scope) (w : List ℕ) (s : Sense) → length (spell_sense sc w s) ≡ sense_tokens s
 sense_counted sc w (sense.Read p) = omega (arith, place_counted sc p)
@@ -56,7 +57,8 @@ sense_counted sc w (sense.Scan class x0 x1 y0 y1) = omega (
   length-append (spell sc y0) (spell sc y1),
 )
 
-pub change_counted : (sc : Scope) (w : List ℕ) (p : Place) (x y : Expr) → length (spell_change sc w p x y) ≡ change_tokens p x y
+pub change_counted : (sc : Scope) (w : List ℕ) (p : Place) (x y : Expr) →
+    length (spell_change sc w p x y) ≡ change_tokens p x y
 change_counted sc w p x y = omega (
   arith,
   place_counted sc p,

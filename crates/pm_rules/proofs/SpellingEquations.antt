@@ -33,7 +33,8 @@ pub spell-Part : (sc : Scope) (k : ℕ) (f : Field) →
 spell-Part sc k f = search (rules, the_lemmas)
 
 pub spell-Bin : (sc : Scope) (o : Op) (a b : Expr) →
-    spell sc (Bin o a b) ≡ symbol symbols.Open ∷ (spell sc a ++ (op_token o ∷ (spell sc b ++ symbol symbols.Close ∷ [])))
+    spell sc (Bin o a b) ≡
+    symbol symbols.Open ∷ (spell sc a ++ (op_token o ∷ (spell sc b ++ symbol symbols.Close ∷ [])))
 spell-Bin sc o a b = search (rules, the_lemmas)
 
 pub known-Num : (k : Known) (z : ℤ) → is_known k (Num z) ≡ true
@@ -76,10 +77,12 @@ pub does-Let : (sc : Scope) (reg : ℕ) (e : Expr) →
     spell_does sc (Let reg e) ≡ name (codes "let") ∷ name (name_in sc.regs reg) ∷ symbol symbols.Assign ∷ spell sc e
 does-Let sc reg e = search (rules, stmt_lemmas)
 
-pub does-Set : (sc : Scope) (place : Place) (x y : Expr) → spell_does sc (Set place x y) ≡ spell_change sc (codes "set") place x y
+pub does-Set : (sc : Scope) (place : Place) (x y : Expr) →
+    spell_does sc (Set place x y) ≡ spell_change sc (codes "set") place x y
 does-Set sc place x y = search (rules, stmt_lemmas)
 
-pub does-Add : (sc : Scope) (place : Place) (x y : Expr) → spell_does sc (Add place x y) ≡ spell_change sc (codes "add") place x y
+pub does-Add : (sc : Scope) (place : Place) (x y : Expr) →
+    spell_does sc (Add place x y) ≡ spell_change sc (codes "add") place x y
 does-Add sc place x y = search (rules, stmt_lemmas)
 
 pub does-Wait : (sc : Scope) (e : Expr) → spell_does sc (Wait e) ≡ name (codes "wait") ∷ spell sc e
@@ -98,7 +101,8 @@ pub sayable-Set : (sc : Scope) (version : ℕ) (place : Place) (x y : Expr) →
 sayable-Set sc version place x y = search (rules, stmt_lemmas)
 
 pub sayable-Add : (sc : Scope) (version : ℕ) (place : Place) (x y : Expr) →
-    does_sayable sc version (Add place x y) ≡ (version == 2 && change_known (class_rows sc.table) (known_in sc) place x y)
+    does_sayable sc version (Add place x y) ≡
+    (version == 2 && change_known (class_rows sc.table) (known_in sc) place x y)
 sayable-Add sc version place x y = search (rules, stmt_lemmas)
 
 pub sayable-Wait : (sc : Scope) (version : ℕ) (e : Expr) → does_sayable sc version (Wait e) ≡ is_known (known_in sc) e

@@ -27,7 +27,8 @@ pub record OfEach (P : Expr → Type 0) : Type 0 where
 again : (P : Expr → Type 0) (x : Expr-F Expr) (e : Expr) → roll-Expr x ≡ e → P e → P (roll-Expr x)
 again P x e is h = subst P (sym is) h
 
-cases : (P : Expr → Type 0) → OfEach P → (y : Expr-F ((e : Expr) × P e)) → P (roll-Expr (map-Expr ((e : Expr) × P e) Expr (λ e. e.0) y))
+cases : (P : Expr → Type 0) → OfEach P → (y : Expr-F ((e : Expr) × P e)) →
+    P (roll-Expr (map-Expr ((e : Expr) × P e) Expr (λ e. e.0) y))
 cases P each (Expr-F.Num z) = again P _ (Num z) (rolls-Num z) (each.num z)
 cases P each Expr-F.Now = again P _ Now rolls-Now each.now
 cases P each Expr-F.Me = again P _ Me rolls-Me each.me
@@ -56,10 +57,12 @@ pub record OfEachStmt (P : Stmt → Type 0) : Type 0 where
 stmt_again : (P : Stmt → Type 0) (x : Stmt-F Stmt) (s : Stmt) → roll-Stmt x ≡ s → P s → P (roll-Stmt x)
 stmt_again P x s is h = subst P (sym is) h
 
-stmt_cases : (P : Stmt → Type 0) → OfEachStmt P → (y : Stmt-F (Holding P)) → P (roll-Stmt (map-Stmt (Holding P) Stmt (λ h. h.0) y))
+stmt_cases : (P : Stmt → Type 0) → OfEachStmt P → (y : Stmt-F (Holding P)) →
+    P (roll-Stmt (map-Stmt (Holding P) Stmt (λ h. h.0) y))
 stmt_cases P each (Stmt-F.Let reg e) = stmt_again P _ (Let reg e) (rolls-Let reg e) (each.let_ reg e)
 stmt_cases P each (Stmt-F.If test first second) =
-    stmt_again P _ (If test (those P first) (those P second)) (rolls-If test (those P first) (those P second)) (each.if_ test first second)
+    stmt_again P _ (If test (those P first) (those P second)) (rolls-If test (those P first) (those P second))
+    (each.if_ test first second)
 stmt_cases P each (Stmt-F.Set place x y) = stmt_again P _ (Set place x y) (rolls-Set place x y) (each.set place x y)
 stmt_cases P each (Stmt-F.Add place x y) = stmt_again P _ (Add place x y) (rolls-Add place x y) (each.add place x y)
 stmt_cases P each (Stmt-F.Wait e) = stmt_again P _ (Wait e) (rolls-Wait e) (each.wait e)

@@ -54,7 +54,8 @@ extended sc regs senses = record { table = sc.table; regs = sc.regs ++ regs; sen
 -- each line may be said, in at most 64 tokens
 abbrev pub lines_fit : Scope → ℕ → List Said → Bool
 lines_fit sc version [] = true
-lines_fit sc version (s ∷ ss) = (in_line (length (spell_said sc s)) && is_sayable sc version s) && lines_fit sc version ss
+lines_fit sc version (s ∷ ss) =
+    (in_line (length (spell_said sc s)) && is_sayable sc version s) && lines_fit sc version ss
 
 -- a statement of that version: version 1 has no `add`
 abbrev pub is_of_version : ℕ → Stmt → Bool

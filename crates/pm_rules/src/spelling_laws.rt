@@ -1,18 +1,23 @@
 //! Laws of spelling and reading, for proofs: each function does nothing, and its contract is the law.
 
-ghost use Rattle.std.specs.Prelude.{◌≡◌, ◌≤◌, ◌^◌, ◌&&◌, List, ℕ, length, ◌++◌, Some, None, true};
-ghost use Rattle.pm_base.specs.Fits.{change_tokens, is_known, names_fit, place_known, place_tokens, sense_tokens, stmts_fit, tokens_of};
+ghost use Rattle.std.specs.Prelude.{◌≡◌, ◌⊎◌, ◌≤◌, ◌+◌, ◌^◌, ◌&&◌, List, ℕ, length, ◌++◌, Some, None, true};
+ghost use Rattle.pm_base.specs.Fits.{change_tokens, in_line, is_known, names_fit, place_known, place_tokens, sense_known, sense_tokens, senses_fit, stmts_fit, tokens_of};
+ghost use Rattle.pm_base.specs.declared.fits.Known.{Known};
+ghost use Rattle.pm_base.specs.declared.layout.ClassRow.{ClassRow};
 ghost use Rattle.pm_base.specs.declared.program.Expr.{Expr};
 ghost use Rattle.pm_base.specs.declared.program.Place.{Place};
+ghost use Rattle.pm_base.specs.declared.program.Program.{Program};
 ghost use Rattle.pm_base.specs.declared.program.Sense.{Sense};
+ghost use Rattle.pm_base.specs.declared.program.SenseRow.{SenseRow};
 ghost use Rattle.pm_base.specs.declared.program.Stmt.{Stmt};
-ghost use Rattle.pm_rules.specs.Grammar.{IsTable};
+ghost use Rattle.pm_rules.specs.Grammar.{IsOfVersion, IsTable};
 ghost use Rattle.pm_rules.specs.Reading.{Scope, Table, after, class_rows, expression, is_dot, is_left, place};
 ghost use Rattle.pm_rules.specs.Sayable.{IsScope, are_of_version, extended, is_sayable, known_in, lines_fit};
 ghost use Rattle.pm_rules.specs.Spelling.{says_all, spell, spell_change, spell_place, spell_said, spell_sense};
-ghost use Rattle.pm_rules.specs.Statements.{statement};
+ghost use Rattle.pm_rules.specs.Statements.{is_free, statement};
 ghost use Rattle.pm_rules.specs.Tokens.{Tok};
 ghost use Rattle.pm_rules.specs.declared.said.Said.{Said};
+ghost use Rattle.pm_rules.specs.declared.said.Said.TheVariants as said;
 
 /// What is spelled is read, where the names are distinct within their kind and those of registers and senses may be
 /// declared. Behind an expression any tokens may stand but a dot, and behind a place any but a bracket.
@@ -58,16 +63,31 @@ pub fn spelled_tokens_are_counted()
         length (spell_change sc w p x y) ≡ change_tokens p x y }
 {}
 
-/// The names of a rule that fits make a scope with those of a scenario, and so do its first registers and senses.
+/// The names of a rule that fits make a scope with those of a scenario, and the first of names that fit do fit.
 pub fn fitting_names_make_a_scope()
-    ensures { (t : Table) (regs senses : List (List ℕ)) →
+    ensures first { (xs ys : List (List ℕ)) → names_fit (xs ++ ys) ≡ true → names_fit xs ≡ true }
+    ensures scope { (t : Table) (regs senses : List (List ℕ)) →
         IsTable t → names_fit (regs ++ senses) ≡ true → length regs ≤ 2 ^ 32 → length senses ≤ 2 ^ 32 →
         IsScope (record { table = t; regs = regs; senses = senses }) }
 {}
 
 /// A rule's body fits, and is of the version, just where each of its lines may be said in at most 64 tokens.
 pub fn fitting_statements_have_fitting_lines()
-    ensures { (sc : Scope) (version : ℕ) (stmts : List Stmt) →
+    ensures lines { (sc : Scope) (version : ℕ) (stmts : List Stmt) →
         lines_fit sc version (says_all stmts) ≡
         (stmts_fit (class_rows sc.table) (known_in sc) stmts && are_of_version version stmts) }
+    ensures of_version { (version : ℕ) (p : Program) → (version ≡ 1) ⊎ (version ≡ 2) →
+        IsOfVersion version p → are_of_version version p.body ≡ true }
+    ensures version { (version : ℕ) (p : Program) → are_of_version version p.body ≡ true → IsOfVersion version p }
+{}
+
+/// Senses fit just where the first ones do and the others do with these before them, and a sense with a name that may
+/// be declared fits just where its line may be said in at most 64 tokens.
+pub fn fitting_senses_have_fitting_lines()
+    ensures parts { (rows : List ClassRow) (k : Known) (xs ys : List SenseRow) →
+        senses_fit rows k (xs ++ ys) ≡
+        (senses_fit rows k xs && senses_fit rows (record k { senses = k.senses + length xs }) ys) }
+    ensures line { (sc : Scope) (version : ℕ) (w : List ℕ) (s : Sense) → is_free w ≡ true →
+        (in_line (length (spell_said sc (said.Sense w s))) && is_sayable sc version (said.Sense w s)) ≡
+        (in_line (sense_tokens s) && sense_known (class_rows sc.table) (known_in sc) s) }
 {}
