@@ -5,6 +5,7 @@ pub mod FineLaws
 pub mod FittingLines
 pub mod FittingSenses
 pub mod Found
+pub mod GrammarLaws
 pub mod IdleLaws
 pub mod KnownParts
 pub mod LexingLaws

@@ -150,7 +150,7 @@ none_known : (t : Table) (p : Program) → length t.vars ≡ var_count (class_ro
     known_in (scope_of t (record empty { regs = p.regs })) ≡ known_before (class_rows t) p 0
 none_known t p count = rw (count, reg_names-length p.regs) refl
 
-abbrev layout_of : Table → Layout
+abbrev pub layout_of : Table → Layout
 layout_of t = record { classes = class_rows t }
 
 le_test : (n m : ℕ) → n ≤ m → nat_le n m ≡ true
@@ -159,7 +159,7 @@ le_test n m h = grind (arith, nat_tests)
 le_is : (n m : ℕ) → nat_le n m ≡ true → n ≤ m
 le_is n m h = grind (arith, nat_tests)
 
-empty_sound : IsSound empty
+pub empty_sound : IsSound empty
 empty_sound = record { names = refl; regs = omega arith; senses = omega arith }
 
 -- a program whose lines are fine fits, and is of the version

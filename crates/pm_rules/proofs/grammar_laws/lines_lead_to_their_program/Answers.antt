@@ -5,6 +5,7 @@ use Rattle.pm_rules.proofs.RowLaws.{read_rows}
 use Rattle.pm_rules.proofs.CanonicalLaws.{program_canonical}
 use Rattle.pm_rules.proofs.DraftLaws.{fine_read}
 use Rattle.pm_rules.proofs.ProgramLaws.{fits_fine}
+use Rattle.pm_rules.proofs.GrammarLaws.{rule_accepted}
 use Rattle.pm_rules.proofs.grammar_laws.lines_lead_to_their_program.Goals as goal
 
 pub returns : goal.returns
