@@ -198,13 +198,14 @@ says_end_second d fs f first c cs last came body =
 -- an `end` right behind its `else`, which is then left out
 pub says_end_idle : (d : Draft) (fs : List Frame) (f : Frame) (first : List Stmt) → last_frame d.frames ≡ Some (fs, f) →
     f.first ≡ Some first → d.body ≡ [] → (before : List Said) × (draft_says d ≡ before ++ said.Else ∷ []) × (draft_says (with_said said.End d) ≡ before ++ said.End ∷ [])
-says_end_idle d fs f first last came body =
-    (front d (frames_said fs ++ (says_all f.outer ++ (said.If f.test ∷ says_all first))),
-    ap (λ (ss : List Said). front d ss) (turned_body d fs f first came last)
-    ∙ ap (λ (b : List Stmt). front d (frames_said fs ++ (says_all f.outer ++ (said.If f.test ∷ (says_all first ++ (said.Else ∷ says_all b)))))) body
-    ∙ behind_three d (frames_said fs) (says_all f.outer) (said.If f.test ∷ says_all first) said.Else,
-    closed_says fs f d last
-    ∙ ap (λ (o : Option (List Stmt)). front d (frames_said fs ++ (says_all f.outer ++ says (whole_if f.test o d.body)))) came
-    ∙ ap (λ (b : List Stmt). front d (frames_said fs ++ (says_all f.outer ++ says (If f.test first b)))) body
-    ∙ ap (λ (ss : List Said). front d (frames_said fs ++ (says_all f.outer ++ ss))) (says-If f.test first [])
-    ∙ behind_three d (frames_said fs) (says_all f.outer) (said.If f.test ∷ says_all first) said.End)
+says_end_idle d fs f first last came body = (
+  front d (frames_said fs ++ (says_all f.outer ++ (said.If f.test ∷ says_all first))),
+  ap (λ (ss : List Said). front d ss) (turned_body d fs f first came last)
+      ∙ ap (λ (b : List Stmt). front d (frames_said fs ++ (says_all f.outer ++ (said.If f.test ∷ (says_all first ++ (said.Else ∷ says_all b)))))) body
+      ∙ behind_three d (frames_said fs) (says_all f.outer) (said.If f.test ∷ says_all first) said.Else,
+  closed_says fs f d last
+      ∙ ap (λ (o : Option (List Stmt)). front d (frames_said fs ++ (says_all f.outer ++ says (whole_if f.test o d.body)))) came
+      ∙ ap (λ (b : List Stmt). front d (frames_said fs ++ (says_all f.outer ++ says (If f.test first b)))) body
+      ∙ ap (λ (ss : List Said). front d (frames_said fs ++ (says_all f.outer ++ ss))) (says-If f.test first [])
+      ∙ behind_three d (frames_said fs) (says_all f.outer) (said.If f.test ∷ says_all first) said.End,
+)

@@ -223,9 +223,10 @@ pub read_fine : (t : Table) (version : ℕ) (rows : List Row) (ss : List Said) (
 read_fine t version [] [] d read taken short = tt
 read_fine t version (r ∷ rs) (s ∷ ss) d read taken short =
     let parts = both (is_taken d s) (are_taken (with_said s d) ss) taken in
-    let spelled = line_spelled (scope_of t d) version r.tokens s read.0 in
-    (record { taken = parts.0; sayable = spelled.1; short = subst (λ (ts : List Tok). length ts ≤ 64) spelled.0 short.0.tokens },
-    read_fine t version rs ss (with_said s d) read.1 parts.1 short.1)
+    let spelled = line_spelled (scope_of t d) version r.tokens s read.0 in (
+      record { taken = parts.0; sayable = spelled.1; short = subst (λ (ts : List Tok). length ts ≤ 64) spelled.0 short.0.tokens },
+      read_fine t version rs ss (with_said s d) read.1 parts.1 short.1,
+    )
 read_fine t version [] (s ∷ ss) d read taken short = absurd read
 read_fine t version (r ∷ rs) [] d read taken short = absurd read
 
@@ -256,9 +257,10 @@ pub fine_read : (t : Table) (version : ℕ) (rows : List Row) (ss : List Said) (
     map (λ (r : Row). r.tokens) rows ≡ map (spell_said (scope_of t (all_said ss d))) ss → AreRead t version d rows ss
 fine_read t version [] [] d is sound fine same = tt
 fine_read t version (r ∷ rs) (s ∷ ss) d is sound fine same =
-    let later = spelled_later t version d (all_said (s ∷ ss) d) s (grown_all (s ∷ ss) d) fine.0.sayable in
-    (ap (λ (ts : List Tok). statement (scope_of t d) version ts) (same_head _ _ _ _ same ∙ later)
-    ∙ line_read (scope_of t d) version (sound_scope t d is sound) s fine.0.sayable fine.0.short,
-    fine_read t version rs ss (with_said s d) is (sound_step t version d s fine.0 sound) fine.1 (same_tail _ _ _ _ same))
+    let later = spelled_later t version d (all_said (s ∷ ss) d) s (grown_all (s ∷ ss) d) fine.0.sayable in (
+      ap (λ (ts : List Tok). statement (scope_of t d) version ts) (same_head _ _ _ _ same ∙ later)
+          ∙ line_read (scope_of t d) version (sound_scope t d is sound) s fine.0.sayable fine.0.short,
+      fine_read t version rs ss (with_said s d) is (sound_step t version d s fine.0 sound) fine.1 (same_tail _ _ _ _ same),
+    )
 fine_read t version [] (s ∷ ss) d is sound fine same = cc
 fine_read t version (r ∷ rs) [] d is sound fine same = cc

@@ -94,36 +94,40 @@ two_not_one version e is = cc_one (subst (λ (v : ℕ). (v == 2) ≡ true) is e)
 -- what one line gives: it is fine where the statement fits
 pub record OneLine (t : Table) (version : ℕ) (sc : Scope) (c : Stmt) : Type 0 where
   pub from : does_sayable sc version c ≡ true → length (spell_does sc c) ≤ 64 →
-    (stmt_fits (class_rows sc.table) (known_in sc) c ≡ true) × (depth_of c ≡ 0) × (version ≡ 1 → is_plain c ≡ true)
+      (stmt_fits (class_rows sc.table) (known_in sc) c ≡ true) × (depth_of c ≡ 0) × (version ≡ 1 → is_plain c ≡ true)
   pub to : (version ≡ 1) ⊎ (version ≡ 2) → stmt_fits (class_rows sc.table) (known_in sc) c ≡ true → (version ≡ 1 → is_plain c ≡ true) →
-    (does_sayable sc version c ≡ true) × (length (spell_does sc c) ≤ 64)
+      (does_sayable sc version c ≡ true) × (length (spell_does sc c) ≤ 64)
 
 let_line : (t : Table) (version : ℕ) (sc : Scope) (reg : ℕ) (e : Expr) → OneLine t version sc (Let reg e)
 let_line t version sc reg e = record {
   from = λ known low. (
     rw (fits-Let (class_rows sc.table) (known_in sc) reg e)
-    (and_true _ _ (line_test (3 + tokens_of e) (omega (arith, ap (λ (ts : List Tok). length ts) (does-Let sc reg e), expression_counted sc e)))
-    (sym (sayable-Let sc version reg e) ∙ known)),
+        (and_true _ _ (line_test (3 + tokens_of e) (omega (arith, ap (λ (ts : List Tok). length ts) (does-Let sc reg e), expression_counted sc e)))
+        (sym (sayable-Let sc version reg e) ∙ known)),
     depth-Let reg e,
-    λ one. plain-Let reg e);
+    λ one. plain-Let reg e,
+  );
   to = λ which fits plain.
-    let parts = both _ _ (sym (fits-Let (class_rows sc.table) (known_in sc) reg e) ∙ fits) in
-    (sayable-Let sc version reg e ∙ parts.1,
-    (let low = line_is (3 + tokens_of e) parts.0 in omega (arith, low, ap (λ (ts : List Tok). length ts) (does-Let sc reg e), expression_counted sc e)));
+      let parts = both _ _ (sym (fits-Let (class_rows sc.table) (known_in sc) reg e) ∙ fits) in (
+        sayable-Let sc version reg e ∙ parts.1,
+        (let low = line_is (3 + tokens_of e) parts.0 in omega (arith, low, ap (λ (ts : List Tok). length ts) (does-Let sc reg e), expression_counted sc e)),
+      );
 }
 
 set_line : (t : Table) (version : ℕ) (sc : Scope) (place : Place) (x y : Expr) → OneLine t version sc (Set place x y)
 set_line t version sc place x y = record {
   from = λ known low. (
     rw (fits-Set (class_rows sc.table) (known_in sc) place x y)
-    (and_true _ _ (line_test (change_tokens place x y) (omega (arith, low, ap (λ (ts : List Tok). length ts) (does-Set sc place x y), change_counted sc (codes "set") place x y)))
-    (sym (sayable-Set sc version place x y) ∙ known)),
+        (and_true _ _ (line_test (change_tokens place x y) (omega (arith, low, ap (λ (ts : List Tok). length ts) (does-Set sc place x y), change_counted sc (codes "set") place x y)))
+        (sym (sayable-Set sc version place x y) ∙ known)),
     depth-Set place x y,
-    λ one. plain-Set place x y);
+    λ one. plain-Set place x y,
+  );
   to = λ which fits plain.
-    let parts = both _ _ (sym (fits-Set (class_rows sc.table) (known_in sc) place x y) ∙ fits) in
-    (sayable-Set sc version place x y ∙ parts.1,
-    (let low = line_is (change_tokens place x y) parts.0 in omega (arith, low, ap (λ (ts : List Tok). length ts) (does-Set sc place x y), change_counted sc (codes "set") place x y)));
+      let parts = both _ _ (sym (fits-Set (class_rows sc.table) (known_in sc) place x y) ∙ fits) in (
+        sayable-Set sc version place x y ∙ parts.1,
+        (let low = line_is (change_tokens place x y) parts.0 in omega (arith, low, ap (λ (ts : List Tok). length ts) (does-Set sc place x y), change_counted sc (codes "set") place x y)),
+      );
 }
 
 -- version 2 has `add`
@@ -137,30 +141,34 @@ is_two version (inr two) never = rw two refl
 add_line : (t : Table) (version : ℕ) (sc : Scope) (place : Place) (x y : Expr) → OneLine t version sc (Add place x y)
 add_line t version sc place x y = record {
   from = λ known low.
-    let parts = both (version == 2) (change_known (class_rows sc.table) (known_in sc) place x y) (sym (sayable-Add sc version place x y) ∙ known) in (
-    rw (fits-Add (class_rows sc.table) (known_in sc) place x y)
-    (and_true _ _ (line_test (change_tokens place x y) (omega (arith, low, ap (λ (ts : List Tok). length ts) (does-Add sc place x y), change_counted sc (codes "add") place x y)))
-    parts.1),
-    depth-Add place x y,
-    λ one. absurd (two_not_one version parts.0 one));
+      let parts = both (version == 2) (change_known (class_rows sc.table) (known_in sc) place x y) (sym (sayable-Add sc version place x y) ∙ known) in (
+        rw (fits-Add (class_rows sc.table) (known_in sc) place x y)
+            (and_true _ _ (line_test (change_tokens place x y) (omega (arith, low, ap (λ (ts : List Tok). length ts) (does-Add sc place x y), change_counted sc (codes "add") place x y)))
+            parts.1),
+        depth-Add place x y,
+        λ one. absurd (two_not_one version parts.0 one),
+      );
   to = λ which fits plain.
-    let parts = both _ _ (sym (fits-Add (class_rows sc.table) (known_in sc) place x y) ∙ fits) in
-    (sayable-Add sc version place x y ∙ and_true (version == 2) _ (is_two version which (λ one. sym (plain-Add place x y) ∙ plain one)) parts.1,
-    (let low = line_is (change_tokens place x y) parts.0 in omega (arith, low, ap (λ (ts : List Tok). length ts) (does-Add sc place x y), change_counted sc (codes "add") place x y)));
+      let parts = both _ _ (sym (fits-Add (class_rows sc.table) (known_in sc) place x y) ∙ fits) in (
+        sayable-Add sc version place x y ∙ and_true (version == 2) _ (is_two version which (λ one. sym (plain-Add place x y) ∙ plain one)) parts.1,
+        (let low = line_is (change_tokens place x y) parts.0 in omega (arith, low, ap (λ (ts : List Tok). length ts) (does-Add sc place x y), change_counted sc (codes "add") place x y)),
+      );
 }
 
 wait_line : (t : Table) (version : ℕ) (sc : Scope) (e : Expr) → OneLine t version sc (Wait e)
 wait_line t version sc e = record {
   from = λ known low. (
     rw (fits-Wait (class_rows sc.table) (known_in sc) e)
-    (and_true _ _ (line_test (1 + tokens_of e) (omega (arith, low, ap (λ (ts : List Tok). length ts) (does-Wait sc e), expression_counted sc e)))
-    (sym (sayable-Wait sc version e) ∙ known)),
+        (and_true _ _ (line_test (1 + tokens_of e) (omega (arith, low, ap (λ (ts : List Tok). length ts) (does-Wait sc e), expression_counted sc e)))
+        (sym (sayable-Wait sc version e) ∙ known)),
     depth-Wait e,
-    λ one. plain-Wait e);
+    λ one. plain-Wait e,
+  );
   to = λ which fits plain.
-    let parts = both _ _ (sym (fits-Wait (class_rows sc.table) (known_in sc) e) ∙ fits) in
-    (sayable-Wait sc version e ∙ parts.1,
-    (let low = line_is (1 + tokens_of e) parts.0 in omega (arith, low, ap (λ (ts : List Tok). length ts) (does-Wait sc e), expression_counted sc e)));
+      let parts = both _ _ (sym (fits-Wait (class_rows sc.table) (known_in sc) e) ∙ fits) in (
+        sayable-Wait sc version e ∙ parts.1,
+        (let low = line_is (1 + tokens_of e) parts.0 in omega (arith, low, ap (λ (ts : List Tok). length ts) (does-Wait sc e), expression_counted sc e)),
+      );
 }
 
 -- so many `if`s are open
@@ -245,9 +253,10 @@ pub apart : (t : Table) (version : ℕ) (k : Known) (n : ℕ) (cs : List Stmt) �
 apart t version k n [] all = tt
 apart t version k n (c ∷ cs) all =
     let fits = both (stmt_fits (class_rows t) k c) (all_true (map (stmt_fits (class_rows t) k) cs)) all.fits in
-    let plain = λ (one : version ≡ 1). both (is_plain c) (all_true (map is_plain cs)) (all.plain one) in
-    (record { fits = fits.0; depth = omega (arith, all.depth); plain = λ one. (plain one).0 },
-    apart t version k n cs (record { fits = fits.1; depth = omega (arith, all.depth); plain = λ one. (plain one).1 }))
+    let plain = λ (one : version ≡ 1). both (is_plain c) (all_true (map is_plain cs)) (all.plain one) in (
+      record { fits = fits.0; depth = omega (arith, all.depth); plain = λ one. (plain one).0 },
+      apart t version k n cs (record { fits = fits.1; depth = omega (arith, all.depth); plain = λ one. (plain one).1 }),
+    )
 
 if_good : (t : Table) (version : ℕ) (k : Known) (n : ℕ) (test : Expr) (a b : List Stmt) → is_known k test ≡ true → 1 + tokens_of test ≤ 64 → n + 1 ≤ 8 →
     AreGood t version k (n + 1) a → AreGood t version k (n + 1) b → IsGood t version k n (If test a b)
@@ -336,9 +345,10 @@ tail_from t version test a (c ∷ cs) d rest few fine =
     let frame : Frame = record { test = test; first = Some a; outer = d.body } in
     let b = those (FromLines t version) (c ∷ cs) in
     let lists = list_from t version (c ∷ cs) (inside test (Some a) [] d) (said.End ∷ rest) (omega (arith, few, deeper d frame))
-    (subst (λ (e : Draft). AreFine t version e (says_all b ++ (said.End ∷ rest))) (else_first test a d) fine.1) in
-    (subst (λ (n : ℕ). AreGood t version (known_in (scope_of t d)) n b) (deeper d frame) lists.0,
-    subst (λ (e : Draft). AreFine t version e rest) (end_second test a b d) lists.1.1)
+    (subst (λ (e : Draft). AreFine t version e (says_all b ++ (said.End ∷ rest))) (else_first test a d) fine.1) in (
+      subst (λ (n : ℕ). AreGood t version (known_in (scope_of t d)) n b) (deeper d frame) lists.0,
+      subst (λ (e : Draft). AreFine t version e rest) (end_second test a b d) lists.1.1,
+    )
 
 tail_to : (t : Table) (version : ℕ) (test : Expr) (a : List Stmt) (second : List (Holding (ToLines t version))) (d : Draft) (rest : List Said) →
     AreGood t version (known_in (scope_of t d)) (depth d + 1) (those (ToLines t version) second) →
@@ -348,12 +358,13 @@ tail_to t version test a [] d rest good more =
     (end_fine t version test None a d, subst (λ (e : Draft). AreFine t version e rest) (sym (end_first test a d)) more)
 tail_to t version test a (c ∷ cs) d rest good more =
     let frame : Frame = record { test = test; first = Some a; outer = d.body } in
-    let b = those (ToLines t version) (c ∷ cs) in
-    (else_fine t version test a d,
-    subst (λ (e : Draft). AreFine t version e (says_all b ++ (said.End ∷ rest))) (sym (else_first test a d))
-    (list_to t version (c ∷ cs) (inside test (Some a) [] d) (said.End ∷ rest)
-    (subst (λ (n : ℕ). AreGood t version (known_in (scope_of t d)) n b) (sym (deeper d frame)) good)
-    (end_fine t version test (Some a) b d, subst (λ (e : Draft). AreFine t version e rest) (sym (end_second test a b d)) more)))
+    let b = those (ToLines t version) (c ∷ cs) in (
+      else_fine t version test a d,
+      subst (λ (e : Draft). AreFine t version e (says_all b ++ (said.End ∷ rest))) (sym (else_first test a d))
+          (list_to t version (c ∷ cs) (inside test (Some a) [] d) (said.End ∷ rest)
+          (subst (λ (n : ℕ). AreGood t version (known_in (scope_of t d)) n b) (sym (deeper d frame)) good)
+          (end_fine t version test (Some a) b d, subst (λ (e : Draft). AreFine t version e rest) (sym (end_second test a b d)) more)),
+    )
 
 if_from : (t : Table) (version : ℕ) (test : Expr) (first second : List (Holding (FromLines t version))) →
     FromLines t version (If test (those (FromLines t version) first) (those (FromLines t version) second))
@@ -367,10 +378,11 @@ if_from t version test first second d rest few fine =
     let room = few_open d test all.0.taken in
     let lists = list_from t version first (inside test None [] d) (else_said (map says b) ++ (said.End ∷ rest)) (omega (arith, room, deeper d frame))
     (subst (λ (e : Draft). AreFine t version e (says_all a ++ (else_said (map says b) ++ (said.End ∷ rest)))) (if_open test d) all.1) in
-    let tail = tail_from t version test a second d rest room lists.1 in
-    (if_good t version (known_in (scope_of t d)) (depth d) test a b all.0.sayable (omega (arith, all.0.short, expression_counted (scope_of t d) test)) room
-    (subst (λ (n : ℕ). AreGood t version (known_in (scope_of t d)) n a) (deeper d frame) lists.0) tail.0,
-    tail.1)
+    let tail = tail_from t version test a second d rest room lists.1 in (
+      if_good t version (known_in (scope_of t d)) (depth d) test a b all.0.sayable (omega (arith, all.0.short, expression_counted (scope_of t d) test)) room
+          (subst (λ (n : ℕ). AreGood t version (known_in (scope_of t d)) n a) (deeper d frame) lists.0) tail.0,
+      tail.1,
+    )
 
 if_to : (t : Table) (version : ℕ) (test : Expr) (first second : List (Holding (ToLines t version))) →
     ToLines t version (If test (those (ToLines t version) first) (those (ToLines t version) second))
@@ -382,9 +394,10 @@ if_to t version test first second d rest good more =
     let lines = tail_to t version test a second d rest parts.second more in
     let all = list_to t version first (inside test None [] d) (else_said (map says b) ++ (said.End ∷ rest))
     (subst (λ (n : ℕ). AreGood t version (known_in (scope_of t d)) n a) (sym (deeper d frame)) parts.first) lines in
-    subst (AreFine t version d) (sym (ap (λ (ss : List Said). ss ++ rest) (says-If test a b) ∙ if_lines (says_all a) (else_said (map says b)) rest test))
-    (record { taken = can_open d test parts.few; sayable = parts.known; short = omega (arith, parts.low, expression_counted (scope_of t d) test) },
-    subst (λ (e : Draft). AreFine t version e (says_all a ++ (else_said (map says b) ++ (said.End ∷ rest)))) (sym (if_open test d)) all)
+    subst (AreFine t version d) (sym (ap (λ (ss : List Said). ss ++ rest) (says-If test a b) ∙ if_lines (says_all a) (else_said (map says b)) rest test)) (
+      record { taken = can_open d test parts.few; sayable = parts.known; short = omega (arith, parts.low, expression_counted (scope_of t d) test) },
+      subst (λ (e : Draft). AreFine t version e (says_all a ++ (else_said (map says b) ++ (said.End ∷ rest)))) (sym (if_open test d)) all,
+    )
 
 pub from_lines : (t : Table) (version : ℕ) (c : Stmt) → FromLines t version c
 from_lines t version = every_statement (FromLines t version) (record {

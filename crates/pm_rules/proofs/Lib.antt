@@ -1,9 +1,8 @@
 pub mod BackwardLaws
 pub mod CanonicalLaws
 pub mod DraftLaws
+pub mod FaultLaws
 pub mod FineLaws
-pub mod FittingLines
-pub mod FittingSenses
 pub mod Found
 pub mod GrammarLaws
 pub mod IdleLaws

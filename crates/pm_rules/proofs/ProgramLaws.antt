@@ -130,9 +130,10 @@ senses_from t version [] d rest fine = (refl, subst (λ (rs : List SenseRow). Ar
 senses_from t version (r ∷ rows) d rest fine =
     let more = senses_from t version rows (record d { senses = d.senses ++ r ∷ [] }) rest fine.1 in
     let line = line_test (sense_tokens r.sense) (omega (arith, fine.0.short, sense_counted (scope_of t d) r.name r.sense)) in
-    let known = (both (is_free r.name) (sense_known (class_rows t) (known_in (scope_of t d)) r.sense) fine.0.sayable).1 in
-    (and_true _ _ (and_true _ _ line known) (ap (λ (k : Known). senses_fit (class_rows t) k rows) (sym (one_sense_more t d r)) ∙ more.0),
-    subst (λ (rs : List SenseRow). AreFine t version (record d { senses = rs }) rest) (append_assoc d.senses (r ∷ []) rows) more.1)
+    let known = (both (is_free r.name) (sense_known (class_rows t) (known_in (scope_of t d)) r.sense) fine.0.sayable).1 in (
+      and_true _ _ (and_true _ _ line known) (ap (λ (k : Known). senses_fit (class_rows t) k rows) (sym (one_sense_more t d r)) ∙ more.0),
+      subst (λ (rs : List SenseRow). AreFine t version (record d { senses = rs }) rest) (append_assoc d.senses (r ∷ []) rows) more.1,
+    )
 
 body_from : (t : Table) (version : ℕ) (cs : List Stmt) (d : Draft) → length d.frames ≤ 8 → AreFine t version d (says_all cs) →
     AllByRecursion (IsGood t version (known_in (scope_of t d)) (length d.frames)) cs
@@ -170,13 +171,14 @@ fine_fits t version p count fine sound few =
     let after_regs = regs_from t version p.regs empty (sense_said p.senses ++ says_all p.body) fine in
     let senses = senses_from t version p.senses (record empty { regs = p.regs }) (says_all p.body) after_regs in
     let body = body_from t version p.body (record empty { regs = p.regs; senses = p.senses }) (omega arith) senses.1 in
-    let all : Together t version (known_in (scope_of t (draft_of p))) 0 p.body = together t version (known_in (scope_of t (draft_of p))) 0 p.body (omega arith) body in
-    (and_true _ _ (and_true _ _ (le_test _ _ sound.regs) (le_test _ _ sound.senses))
-    (and_true _ _ sound.names
-    (and_true _ _ (and_true _ _ (le_test (length p.regs + length p.senses + lines_of_all p.body) 200 (omega (arith, few, program_counted p))) (le_test (depth_of_all p.body) 8 (omega (arith, all.depth))))
-    (and_true _ _ (ap (λ (k : Known). senses_fit (class_rows t) k p.senses) (sym (none_known t p count)) ∙ senses.0)
-    (ap (λ (k : Known). stmts_fit (class_rows t) k p.body) (sym (known_is t p count)) ∙ all.fits)))),
-    all.plain)
+    let all : Together t version (known_in (scope_of t (draft_of p))) 0 p.body = together t version (known_in (scope_of t (draft_of p))) 0 p.body (omega arith) body in (
+      and_true _ _ (and_true _ _ (le_test _ _ sound.regs) (le_test _ _ sound.senses))
+          (and_true _ _ sound.names
+          (and_true _ _ (and_true _ _ (le_test (length p.regs + length p.senses + lines_of_all p.body) 200 (omega (arith, few, program_counted p))) (le_test (depth_of_all p.body) 8 (omega (arith, all.depth))))
+          (and_true _ _ (ap (λ (k : Known). senses_fit (class_rows t) k p.senses) (sym (none_known t p count)) ∙ senses.0)
+          (ap (λ (k : Known). stmts_fit (class_rows t) k p.body) (sym (known_is t p count)) ∙ all.fits)))),
+      all.plain,
+    )
 
 -- names that fit, around one of them
 record Around (w : List ℕ) (before : List (List ℕ)) : Type 0 where
@@ -207,14 +209,15 @@ regs_to t version (r ∷ rows) done rest more fit few fine =
     let around = names_around (reg_names done) r.name (reg_names rows ++ more) fit in
     let next : names_fit (reg_names (done ++ r ∷ []) ++ (reg_names rows ++ more)) ≡ true =
     ap (λ (ns : List (List ℕ)). names_fit (ns ++ (reg_names rows ++ more))) (reg_names-append done (r ∷ []))
-    ∙ ap (λ (ns : List (List ℕ)). names_fit ns) (append_assoc (reg_names done) (r.name ∷ []) (reg_names rows ++ more)) ∙ fit in
-    (record {
-      taken = rw (not_full (length done) (omega (arith, few)), around.absent) refl;
-      sayable = around.free;
-      short = omega arith;
-    },
-    regs_to t version rows (done ++ r ∷ []) rest more next (omega (arith, few, length-append done (r ∷ [])))
-    (subst (λ (rs : List RegRow). AreFine t version (with_regs rs) rest) (sym (append_assoc done (r ∷ []) rows)) fine))
+    ∙ ap (λ (ns : List (List ℕ)). names_fit ns) (append_assoc (reg_names done) (r.name ∷ []) (reg_names rows ++ more)) ∙ fit in (
+      record {
+        taken = rw (not_full (length done) (omega (arith, few)), around.absent) refl;
+        sayable = around.free;
+        short = omega arith;
+      },
+      regs_to t version rows (done ++ r ∷ []) rest more next (omega (arith, few, length-append done (r ∷ [])))
+          (subst (λ (rs : List RegRow). AreFine t version (with_regs rs) rest) (sym (append_assoc done (r ∷ []) rows)) fine),
+    )
 
 abbrev with_senses : List RegRow → List SenseRow → Draft
 with_senses regs rows = record empty { regs = regs; senses = rows }
@@ -236,15 +239,16 @@ senses_to t version regs (r ∷ rows) done rest fit few known fine =
     let line = both (in_line (sense_tokens r.sense)) (sense_known (class_rows t) (known_in (scope_of t d)) r.sense) parts.0 in
     let next : names_fit (reg_names regs ++ (sense_names (done ++ r ∷ []) ++ sense_names rows)) ≡ true =
     ap (λ (ns : List (List ℕ)). names_fit (reg_names regs ++ (ns ++ sense_names rows))) (sense_names-append done (r ∷ []))
-    ∙ ap (λ (ns : List (List ℕ)). names_fit (reg_names regs ++ ns)) (append_assoc (sense_names done) (r.name ∷ []) (sense_names rows)) ∙ fit in
-    (record {
-      taken = rw (not_full (length done) (omega (arith, few)), apart.0, apart.1) refl;
-      sayable = and_true _ _ around.free line.1;
-      short = omega (arith, line_is (sense_tokens r.sense) line.0, sense_counted (scope_of t d) r.name r.sense);
-    },
-    senses_to t version regs rows (done ++ r ∷ []) rest next (omega (arith, few, length-append done (r ∷ [])))
-    (ap (λ (k : Known). senses_fit (class_rows t) k rows) (one_sense_more t d r) ∙ parts.1)
-    (subst (λ (rs : List SenseRow). AreFine t version (with_senses regs rs) rest) (sym (append_assoc done (r ∷ []) rows)) fine))
+    ∙ ap (λ (ns : List (List ℕ)). names_fit (reg_names regs ++ ns)) (append_assoc (sense_names done) (r.name ∷ []) (sense_names rows)) ∙ fit in (
+      record {
+        taken = rw (not_full (length done) (omega (arith, few)), apart.0, apart.1) refl;
+        sayable = and_true _ _ around.free line.1;
+        short = omega (arith, line_is (sense_tokens r.sense) line.0, sense_counted (scope_of t d) r.name r.sense);
+      },
+      senses_to t version regs rows (done ++ r ∷ []) rest next (omega (arith, few, length-append done (r ∷ [])))
+          (ap (λ (k : Known). senses_fit (class_rows t) k rows) (one_sense_more t d r) ∙ parts.1)
+          (subst (λ (rs : List SenseRow). AreFine t version (with_senses regs rs) rest) (sym (append_assoc done (r ∷ []) rows)) fine),
+    )
 
 body_to : (t : Table) (version : ℕ) → (version ≡ 1) ⊎ (version ≡ 2) → (cs : List Stmt) (d : Draft) →
     AllByRecursion (IsGood t version (known_in (scope_of t d)) (length d.frames)) cs → AreFine t version d (says_all cs)

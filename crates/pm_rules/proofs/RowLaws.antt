@@ -104,11 +104,12 @@ line_has t version n l ls (Some []) e more d end is = rw e (more d end (rw e at 
 line_has t version n l ls (Some (k ∷ ks)) e more d end is =
     let passed = gone_on (after_lines t version (n + 1) ls) (after_tokens t version n (Some (k ∷ ks)) d) end (rw e at is) in
     let here = line_passed n k ks (after_read n (statement (scope_of t d) version (k ∷ ks)) d) passed.0 (nat_lt 200 n || nat_lt 64 (length (k ∷ ks))) refl passed.1 in
-    let rest = more passed.0 end passed.2 in
-    (record { number = n; tokens = k ∷ ks } ∷ rest.0,
-    rw (e, rest.1) refl,
-    (here.0, rest.2),
-    row_passed t version (record { number = n; tokens = k ∷ ks }) d passed.0 end rest.0 here.1 rest.3)
+    let rest = more passed.0 end passed.2 in (
+      record { number = n; tokens = k ∷ ks } ∷ rest.0,
+      rw (e, rest.1) refl,
+      (here.0, rest.2),
+      row_passed t version (record { number = n; tokens = k ∷ ks }) d passed.0 end rest.0 here.1 rest.3,
+    )
 
 pub has_rows : (t : Table) (version : ℕ) (lines : List (List ℕ)) (n : ℕ) → HasRows t version n lines
 unfolding after_lines

@@ -50,16 +50,3 @@ pub record IsScope (sc : Scope) : Type 0 where
 -- a scope with more registers and senses behind those that it has
 abbrev pub extended : Scope → List (List ℕ) → List (List ℕ) → Scope
 extended sc regs senses = record { table = sc.table; regs = sc.regs ++ regs; senses = sc.senses ++ senses }
-
--- each line may be said, in at most 64 tokens
-abbrev pub lines_fit : Scope → ℕ → List Said → Bool
-lines_fit sc version [] = true
-lines_fit sc version (s ∷ ss) =
-    (in_line (length (spell_said sc s)) && is_sayable sc version s) && lines_fit sc version ss
-
--- a statement of that version: version 1 has no `add`
-abbrev pub is_of_version : ℕ → Stmt → Bool
-is_of_version version s = version == 2 || is_plain s
-
-abbrev pub are_of_version : ℕ → List Stmt → Bool
-are_of_version version stmts = version == 2 || all_true (map is_plain stmts)

@@ -62,32 +62,3 @@ pub fn spelled_tokens_are_counted()
     ensures changes { (sc : Scope) (w : List ℕ) (p : Place) (x y : Expr) →
         length (spell_change sc w p x y) ≡ change_tokens p x y }
 {}
-
-/// The names of a rule that fits make a scope with those of a scenario, and the first of names that fit do fit.
-pub fn fitting_names_make_a_scope()
-    ensures first { (xs ys : List (List ℕ)) → names_fit (xs ++ ys) ≡ true → names_fit xs ≡ true }
-    ensures scope { (t : Table) (regs senses : List (List ℕ)) →
-        IsTable t → names_fit (regs ++ senses) ≡ true → length regs ≤ 2 ^ 32 → length senses ≤ 2 ^ 32 →
-        IsScope (record { table = t; regs = regs; senses = senses }) }
-{}
-
-/// A rule's body fits, and is of the version, just where each of its lines may be said in at most 64 tokens.
-pub fn fitting_statements_have_fitting_lines()
-    ensures lines { (sc : Scope) (version : ℕ) (stmts : List Stmt) →
-        lines_fit sc version (says_all stmts) ≡
-        (stmts_fit (class_rows sc.table) (known_in sc) stmts && are_of_version version stmts) }
-    ensures of_version { (version : ℕ) (p : Program) → (version ≡ 1) ⊎ (version ≡ 2) →
-        IsOfVersion version p → are_of_version version p.body ≡ true }
-    ensures version { (version : ℕ) (p : Program) → are_of_version version p.body ≡ true → IsOfVersion version p }
-{}
-
-/// Senses fit just where the first ones do and the others do with these before them, and a sense with a name that may
-/// be declared fits just where its line may be said in at most 64 tokens.
-pub fn fitting_senses_have_fitting_lines()
-    ensures parts { (rows : List ClassRow) (k : Known) (xs ys : List SenseRow) →
-        senses_fit rows k (xs ++ ys) ≡
-        (senses_fit rows k xs && senses_fit rows (record k { senses = k.senses + length xs }) ys) }
-    ensures line { (sc : Scope) (version : ℕ) (w : List ℕ) (s : Sense) → is_free w ≡ true →
-        (in_line (length (spell_said sc (said.Sense w s))) && is_sayable sc version (said.Sense w s)) ≡
-        (in_line (sense_tokens s) && sense_known (class_rows sc.table) (known_in sc) s) }
-{}
