@@ -7,4 +7,6 @@ pub mod Statements
 pub mod Rules
 pub mod Spelling
 pub mod Grammar
+pub mod Nesting
+pub mod Sayable
 pub mod Samples

@@ -3,12 +3,18 @@
 
 mod draft;
 mod fault;
+mod grammar_laws;
 mod laws;
 mod lexing;
 mod lines;
 mod said;
+mod spelling_laws;
 mod stop;
 mod token;
 
 pub use fault::RuleFault;
+pub use grammar_laws::{accepted_texts_are_rules, refusals_are_first_faults, rules_are_accepted};
 pub use laws::some_texts;
+pub use spelling_laws::{
+    read_was_spelled, spelled_in_a_larger_scope, spelled_is_read, spelled_tokens_are_counted,
+};
