@@ -1,18 +1,17 @@
 -- A text is accepted exactly where it is of the grammar, with its tree.
-use Rattle.std.proofs.Common.{◌≡◌, ◌∙◌, ap, refl, sym, subst, arith, ℕ, ◌+◌, ◌-◌, ◌≤◌, Bool, true, false, List, [], ◌∷◌, ◌++◌, Option, Some, None, length, ◌⊎◌, Result, Ok, Err}
+use Rattle.std.proofs.Common.{◌≡◌, ◌∙◌, ap, refl, sym, subst, arith, ℕ, ◌+◌, ◌-◌, ◌≤◌, Bool, true, false, List, [], ◌∷◌, Option, Some, None, length, ◌⊎◌, Result, Ok, Err}
 use Rattle.std.specs.List.{AllByRecursion}
-use Rattle.std.specs.Prelude.{map, if◌then◌else◌}
-use Rattle.std.proofs.lemmas.List.{append-nil, length-map}
+use Rattle.std.specs.Prelude.{map}
+use Rattle.std.proofs.lemmas.List.{length-map}
 use Rattle.std.proofs.lemmas.Option.{same_Some}
-use Rattle.pm_base.specs.Fits.{fits}
 use Rattle.pm_base.specs.Layouts.{var_count}
 use Rattle.pm_base.specs.declared.program.Program.{Program}
-use Rattle.pm_rules.specs.Grammar.{IsOfVersion, IsRule, IsShort, IsTable, Row, drops_else, is_matched, or_none, rows_from, with_row, without_idle_else}
+use Rattle.pm_rules.specs.Grammar.{IsRule, IsShort, IsTable, Row, drops_else, or_none, rows_from, without_idle_else}
 use Rattle.pm_rules.specs.Lexing.{lex}
 use Rattle.pm_rules.specs.Lines.{lines_of, code}
-use Rattle.pm_rules.specs.Nesting.{AreFine, AreRead, after_rows, all_said, are_taken, draft_of, draft_says}
+use Rattle.pm_rules.specs.Nesting.{AreFine, all_said, draft_of, draft_says}
 use Rattle.pm_rules.specs.Reading.{Table, class_rows}
-use Rattle.pm_rules.specs.Rules.{after_line, after_lines, empty, finished, go_on, is_empty, parsed, scope_of}
+use Rattle.pm_rules.specs.Rules.{after_lines, empty, finished, go_on, is_empty, parsed, scope_of}
 use Rattle.pm_rules.specs.Spelling.{program_says, program_scope, spell_said}
 use Rattle.pm_rules.specs.Tokens.{Tok}
 use Rattle.pm_rules.specs.declared.draft.Draft.{Draft}
@@ -21,12 +20,12 @@ use Rattle.pm_rules.specs.declared.fault.RuleFault.TheVariants as fault
 use Rattle.pm_rules.specs.declared.said.Said.{Said}
 use Rattle.pm_rules.specs.declared.said.Said.TheVariants as said
 use Rattle.pm_rules.proofs.CanonicalLaws.{program_canonical}
-use Rattle.pm_rules.proofs.DraftLaws.{IsSound, fine_parts, fine_read, read_fine, read_spelled, sound_all}
+use Rattle.pm_rules.proofs.SoundLaws.{IsSound, fine_parts, fine_read, read_fine, read_spelled, sound_all}
 use Rattle.pm_rules.proofs.IdleLaws.{taken_said}
 use Rattle.pm_rules.proofs.BackwardLaws.{nothing_in}
 use Rattle.pm_rules.proofs.MatchedLaws.{idle_back, idle_same, taken_match}
 use Rattle.pm_rules.proofs.NestingLaws.{program_whole}
-use Rattle.pm_rules.proofs.ProgramLaws.{empty_sound, fine_fits, fits_fine, layout_of}
+use Rattle.pm_rules.proofs.ProgramLaws.{empty_sound, fine_fits, fits_fine}
 use Rattle.pm_rules.proofs.RowLaws.{gone_on, has_rows, lines_go_as_rows, read_rows, rows_read, rows_split}
 
 -- rows have rising numbers, so that short ones are few

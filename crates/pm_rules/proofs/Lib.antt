@@ -1,6 +1,6 @@
 pub mod BackwardLaws
 pub mod CanonicalLaws
-pub mod DraftLaws
+pub mod SoundLaws
 pub mod FaultLaws
 pub mod FineLaws
 pub mod Found

@@ -1,38 +1,36 @@
 -- The lines of a program are fine exactly where the program fits.
-use Rattle.std.proofs.Common.{◌≡◌, ◌∙◌, ap, refl, sym, subst, arith, rules, ℕ, ◌+◌, ◌≤◌, Bool, true, false, List, [], ◌∷◌, ◌++◌, length, append_assoc, ◌⊎◌, nat_lt}
+use Rattle.std.proofs.Common.{◌≡◌, ◌∙◌, ap, refl, sym, subst, arith, rules, ℕ, ◌+◌, ◌≤◌, true, false, List, [], ◌∷◌, ◌++◌, length, append_assoc, ◌⊎◌}
 use Rattle.std.specs.List.{AllByRecursion}
-use Rattle.std.specs.Prelude.{map, max, not, nat_le, ◌&&◌, ◌||◌}
+use Rattle.std.specs.Prelude.{map, nat_le, ◌&&◌}
 use Rattle.std.specs.Str.{bytes_eq}
 use Rattle.std.proofs.lemmas.Bool.Decides.{nat_tests}
 use Rattle.std.proofs.lemmas.List.{append-nil, length-append}
-use Rattle.pm_base.specs.Fits.{all_true, are_few, depth_of, depth_of_all, else_lines, fits, greatest, has_name, in_line, is_short, known_before, lines_of, lines_of_all, names_fit, reg_names, sense_known, sense_names, sense_tokens, senses_fit, stmt_fits, stmts_fit, total, tree_fits}
+use Rattle.pm_base.specs.Fits.{are_few, depth_of_all, else_lines, fits, has_name, in_line, is_short, known_before, lines_of, lines_of_all, names_fit, reg_names, sense_known, sense_names, sense_tokens, senses_fit, stmts_fit, total, tree_fits}
 use Rattle.pm_base.specs.Layouts.{var_count}
 use Rattle.pm_base.specs.declared.fits.Known.{Known}
-use Rattle.pm_base.specs.declared.layout.ClassRow.{ClassRow}
 use Rattle.pm_base.specs.declared.layout.Layout.{Layout}
 use Rattle.pm_base.specs.declared.program.Expr.{Expr}
 use Rattle.pm_base.specs.declared.program.Place.{Place}
 use Rattle.pm_base.specs.declared.program.Program.{Program}
 use Rattle.pm_base.specs.declared.program.RegRow.{RegRow}
-use Rattle.pm_base.specs.declared.program.Sense.{Sense}
 use Rattle.pm_base.specs.declared.program.SenseRow.{SenseRow}
 use Rattle.pm_base.specs.declared.program.Stmt.{Stmt, the_lemmas}
 use Rattle.pm_base.specs.declared.program.Stmt.TheVariants.{Let, If, Set, Add, Wait}
-use Rattle.pm_rules.specs.Grammar.{IsOfVersion, is_plain}
-use Rattle.pm_rules.specs.Nesting.{AreFine, IsFine, IsGood, draft_of}
+use Rattle.pm_rules.specs.Grammar.{IsOfVersion}
+use Rattle.pm_rules.specs.Nesting.{AreFine, IsGood, draft_of}
 use Rattle.pm_rules.specs.Reading.{Table, class_rows}
-use Rattle.pm_rules.specs.Rules.{empty, is_declared, is_one_too_many, is_twice, scope_of, with_said}
+use Rattle.pm_rules.specs.Rules.{empty, scope_of, with_said}
 use Rattle.pm_rules.specs.Sayable.{known_in}
-use Rattle.pm_rules.specs.Spelling.{concat, else_said, program_says, reg_said, says, says_all, sense_said, spell_said}
+use Rattle.pm_rules.specs.Spelling.{else_said, program_says, reg_said, says, says_all, sense_said}
 use Rattle.pm_rules.specs.Statements.{is_free}
 use Rattle.pm_rules.specs.declared.draft.Draft.{Draft}
 use Rattle.pm_rules.specs.declared.said.Said.{Said}
 use Rattle.pm_rules.specs.declared.said.Said.TheVariants as said
 use Rattle.pm_rules.proofs.BackwardLaws.{both, neither}
-use Rattle.pm_rules.proofs.DraftLaws.{IsSound, has_name-append, or_false, reg_names-append, reg_names-length, sense_names-append, sense_names-length, sound_all}
-use Rattle.pm_rules.proofs.FineLaws.{and_true, apart, from_lines, line_is, line_test, to_lines, together, with_more, with_none, Together}
+use Rattle.pm_rules.proofs.SoundLaws.{IsSound, has_name-append, or_false, reg_names-append, reg_names-length, sense_names-append, sense_names-length}
+use Rattle.pm_rules.proofs.FineLaws.{and_true, apart, from_lines, line_is, line_test, to_lines, together, Together}
 use Rattle.pm_rules.proofs.NestingLaws.{says-Add, says-If, says-Let, says-Set, says-Wait, with_body}
-use Rattle.pm_rules.proofs.ScopesMade.{differ, first_fits, names_right}
+use Rattle.pm_rules.proofs.ScopesMade.{differ, first_fits}
 use Rattle.pm_rules.proofs.SpellingCounts.{sense_counted}
 use Rattle.pm_rules.proofs.Variants.{Holding, every_statement, those}
 

@@ -1,13 +1,12 @@
 -- What a line may say in a scope: the names that it uses are there, and the one that it declares may be declared.
-use Rattle.std.specs.Prelude.{◌≡◌, ℕ, ◌==◌, ◌<◌, Bool, true, false, ◌&&◌, ◌||◌, nat_lt, List, [], ◌∷◌, ◌++◌, get_or, length, map}
-use Rattle.pm_base.specs.Fits.{all_true, change_known, in_line, is_known, sense_known}
+use Rattle.std.specs.Prelude.{◌≡◌, ℕ, ◌==◌, ◌<◌, Bool, true, false, ◌&&◌, nat_lt, List, [], ◌++◌, get_or, length}
+use Rattle.pm_base.specs.Fits.{change_known, is_known, sense_known}
 use Rattle.pm_base.specs.declared.fits.Known.{Known}
 use Rattle.pm_base.specs.declared.program.Stmt.{Stmt}
 use Rattle.pm_base.specs.declared.program.Stmt.TheFolds.{fold-Stmt}
 use Rattle.pm_base.specs.declared.program.Stmt.TheOpen.{Stmt-F}
-use Rattle.pm_rules.specs.Grammar.{AreDistinct, is_plain}
+use Rattle.pm_rules.specs.Grammar.{AreDistinct}
 use Rattle.pm_rules.specs.Reading.{Scope, class_names, class_rows}
-use Rattle.pm_rules.specs.Spelling.{spell_said}
 use Rattle.pm_rules.specs.Statements.{is_free}
 use Rattle.pm_rules.specs.declared.said.Said.{Said}
 use Rattle.pm_rules.specs.declared.said.Said.TheVariants as said

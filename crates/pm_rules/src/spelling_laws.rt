@@ -1,23 +1,16 @@
 //! Laws of spelling and reading, for proofs: each function does nothing, and its contract is the law.
 
-ghost use Rattle.std.specs.Prelude.{◌≡◌, ◌⊎◌, ◌≤◌, ◌+◌, ◌^◌, ◌&&◌, List, ℕ, length, ◌++◌, Some, None, true};
-ghost use Rattle.pm_base.specs.Fits.{change_tokens, in_line, is_known, names_fit, place_known, place_tokens, sense_known, sense_tokens, senses_fit, stmts_fit, tokens_of};
-ghost use Rattle.pm_base.specs.declared.fits.Known.{Known};
-ghost use Rattle.pm_base.specs.declared.layout.ClassRow.{ClassRow};
+ghost use Rattle.std.specs.Prelude.{◌≡◌, ◌≤◌, List, ℕ, length, ◌++◌, Some, None, true};
+ghost use Rattle.pm_base.specs.Fits.{change_tokens, is_known, place_known, place_tokens, sense_tokens, tokens_of};
 ghost use Rattle.pm_base.specs.declared.program.Expr.{Expr};
 ghost use Rattle.pm_base.specs.declared.program.Place.{Place};
-ghost use Rattle.pm_base.specs.declared.program.Program.{Program};
 ghost use Rattle.pm_base.specs.declared.program.Sense.{Sense};
-ghost use Rattle.pm_base.specs.declared.program.SenseRow.{SenseRow};
-ghost use Rattle.pm_base.specs.declared.program.Stmt.{Stmt};
-ghost use Rattle.pm_rules.specs.Grammar.{IsOfVersion, IsTable};
-ghost use Rattle.pm_rules.specs.Reading.{Scope, Table, after, class_rows, expression, is_dot, is_left, place};
-ghost use Rattle.pm_rules.specs.Sayable.{IsScope, are_of_version, extended, is_sayable, known_in, lines_fit};
-ghost use Rattle.pm_rules.specs.Spelling.{says_all, spell, spell_change, spell_place, spell_said, spell_sense};
-ghost use Rattle.pm_rules.specs.Statements.{is_free, statement};
+ghost use Rattle.pm_rules.specs.Reading.{Scope, after, class_rows, expression, is_dot, is_left, place};
+ghost use Rattle.pm_rules.specs.Sayable.{IsScope, extended, is_sayable, known_in};
+ghost use Rattle.pm_rules.specs.Spelling.{spell, spell_change, spell_place, spell_said, spell_sense};
+ghost use Rattle.pm_rules.specs.Statements.{statement};
 ghost use Rattle.pm_rules.specs.Tokens.{Tok};
 ghost use Rattle.pm_rules.specs.declared.said.Said.{Said};
-ghost use Rattle.pm_rules.specs.declared.said.Said.TheVariants as said;
 
 /// What is spelled is read, where the names are distinct within their kind and those of registers and senses may be
 /// declared. Behind an expression any tokens may stand but a dot, and behind a place any but a bracket.

@@ -1,22 +1,19 @@
 -- What fine lines keep of a draft, and what they add to its names.
-use Rattle.std.proofs.Common.{◌≡◌, ◌∙◌, ap, refl, sym, subst, arith, ℕ, ℤ, ◌+◌, ◌≤◌, ◌^◌, Bool, true, false, List, [], ◌∷◌, ◌++◌, Option, Some, None, length, append_assoc}
+use Rattle.std.proofs.Common.{◌≡◌, ◌∙◌, ap, refl, sym, subst, arith, ℕ, ℤ, ◌+◌, ◌≤◌, Bool, true, false, List, [], ◌∷◌, ◌++◌, Option, Some, None, length, append_assoc}
 use Rattle.std.specs.List.{AllByRecursion}
-use Rattle.std.specs.Prelude.{map, not, nat_le, ◌&&◌, ◌||◌}
+use Rattle.std.specs.Prelude.{map, not, nat_le, ◌||◌}
 use Rattle.std.specs.Str.{bytes_eq}
 use Rattle.std.proofs.lemmas.Bool.Decides.{nat_tests}
 use Rattle.std.proofs.lemmas.List.{append-nil, length-append}
 use Rattle.pm_base.specs.Fits.{has_name, names_fit, reg_names, sense_names}
-use Rattle.pm_base.specs.declared.program.Expr.{Expr}
-use Rattle.pm_base.specs.declared.program.Place.{Place}
 use Rattle.pm_base.specs.declared.program.RegRow.{RegRow}
 use Rattle.pm_base.specs.declared.program.Sense.{Sense}
 use Rattle.pm_base.specs.declared.program.SenseRow.{SenseRow}
 use Rattle.pm_base.specs.declared.program.Stmt.{Stmt}
-use Rattle.pm_base.specs.declared.program.Stmt.TheVariants.{Let, If, Set, Add, Wait}
 use Rattle.pm_rules.specs.Grammar.{IsShort, IsTable, Row}
 use Rattle.pm_rules.specs.Nesting.{AreFine, AreRead, IsFine, IsOneLine, all_said, are_taken, is_taken}
 use Rattle.pm_rules.specs.Reading.{Scope, Table}
-use Rattle.pm_rules.specs.Rules.{ended, is_begun, is_declared, is_empty, is_one_too_many, is_out_of_order, is_twice, last_frame, scope_of, turned, with_said}
+use Rattle.pm_rules.specs.Rules.{ended, is_begun, is_empty, last_frame, scope_of, turned, with_said}
 use Rattle.pm_rules.specs.Sayable.{IsScope, does_sayable, extended, is_sayable}
 use Rattle.pm_rules.specs.Spelling.{says, spell_said}
 use Rattle.pm_rules.specs.Statements.{is_free, statement}
@@ -32,7 +29,7 @@ use Rattle.pm_rules.proofs.LinesReadAgain.{line_read}
 use Rattle.pm_rules.proofs.LinesWereSpelled.{line_spelled}
 use Rattle.pm_rules.proofs.NestingLaws.{says-Add, says-Let, says-Set, says-Wait}
 use Rattle.pm_rules.proofs.ScopeLaws.{said_kept}
-use Rattle.pm_rules.proofs.ScopesMade.{FirstFits, differ, first_fits, names_made, scope_made}
+use Rattle.pm_rules.proofs.ScopesMade.{differ, first_fits, names_made, scope_made}
 use Rattle.pm_rules.proofs.Variants.{every_statement}
 
 pub reg_names-append : (a b : List RegRow) → reg_names (a ++ b) ≡ reg_names a ++ reg_names b
