@@ -1,3 +1,6 @@
+pub mod DirectoryLaws
+pub mod DraftLaws
 pub mod LexingLaws
 pub mod LinesLaws
 pub mod NamesLaws
+pub mod ReservedLaws

@@ -2,13 +2,18 @@
 #![tactic(auto)]
 
 mod draft;
+mod expression;
 mod fault;
 mod laws;
 mod lexing;
 mod lines;
+mod names;
+mod places;
 mod said;
+mod statements;
 mod stop;
 mod token;
 
 pub use fault::RuleFault;
 pub use laws::some_texts;
+pub use names::Names;
