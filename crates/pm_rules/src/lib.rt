@@ -8,12 +8,16 @@ mod laws;
 mod lexing;
 mod lines;
 mod names;
+mod parsing;
 mod places;
 mod said;
 mod statements;
 mod stop;
+#[cfg(test)]
+mod tests;
 mod token;
 
 pub use fault::RuleFault;
 pub use laws::some_texts;
 pub use names::Names;
+pub use parsing::parse;
