@@ -24,7 +24,7 @@ number_from-push w i [] n at e low =
     let same : i ≡ at = omega (arith, e) in rw (in_u32-low i (omega (arith, e, low)), same) refl
 number_from-push w i (m ∷ ns) n at e low =
     rw (in_u32-low i (omega (arith, e, low)), number_from-push w (i + 1) ns n at (omega (arith, e)) low)
-        (chosen (bytes_eq m w) (bytes_eq n w) i at (number_from w (i + 1) ns))
+    (chosen (bytes_eq m w) (bytes_eq n w) i at (number_from w (i + 1) ns))
 
 -- the last name has the number of names before it, where it isn't among them
 pub number_of-push : (w : List ℕ) (ns : List (List ℕ)) (n : List ℕ) (at : ℕ) → at ≡ length ns → at < 2 ^ 32 →

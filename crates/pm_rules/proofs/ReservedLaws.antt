@@ -15,7 +15,17 @@ other w k named strange = elim (cases_Bool (bytes_eq w k)) [
 pub strange_free : (w : List ℕ) → is_name w ≡ false → is_reserved w ≡ false
 unfolding is_name is_reserved
 strange_free w h = rw (
-    other w (codes "reg") refl h, other w (codes "read") refl h, other w (codes "scan") refl h, other w (codes "let") refl h,
-    other w (codes "if") refl h, other w (codes "else") refl h, other w (codes "end") refl h, other w (codes "set") refl h,
-    other w (codes "wait") refl h, other w (codes "now") refl h, other w (codes "me") refl h, other w (codes "min") refl h,
-    other w (codes "max") refl h) refl
+  other w (codes "reg") refl h,
+  other w (codes "read") refl h,
+  other w (codes "scan") refl h,
+  other w (codes "let") refl h,
+  other w (codes "if") refl h,
+  other w (codes "else") refl h,
+  other w (codes "end") refl h,
+  other w (codes "set") refl h,
+  other w (codes "wait") refl h,
+  other w (codes "now") refl h,
+  other w (codes "me") refl h,
+  other w (codes "min") refl h,
+  other w (codes "max") refl h,
+) refl

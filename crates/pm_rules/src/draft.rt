@@ -162,7 +162,12 @@ fn last_frame(frames: List<Frame>) -> Option<(List<Frame>, Frame)>
 fn opened(alloc: Global, test: Expr, draft: Draft) -> Result<Draft, Memory>
     ensures { IfOk result (λ d. d ≡ opened test draft) }
 {
-    let Draft { regs, senses, frames, body } = draft;
+    let Draft {
+        regs,
+        senses,
+        frames,
+        body,
+    } = draft;
     let mut frames = frames;
     frames.push(Frame {
         test,
@@ -170,16 +175,31 @@ fn opened(alloc: Global, test: Expr, draft: Draft) -> Result<Draft, Memory>
         outer: body,
     })?;
     let body = List::new(alloc);
-    Ok(Draft { regs, senses, frames, body })
+    Ok(Draft {
+        regs,
+        senses,
+        frames,
+        body,
+    })
 }
 
 fn turned(alloc: Global, draft: Draft) -> Result<Draft, Memory>
     ensures { IfOk result (λ d. d ≡ turned (last_frame draft.frames) draft) }
 {
-    let Draft { regs, senses, frames, body } = draft;
+    let Draft {
+        regs,
+        senses,
+        frames,
+        body,
+    } = draft;
     let Some((frames, last)) = last_frame(frames) else {
         let frames = List::new(alloc);
-        return Ok(Draft { regs, senses, frames, body });
+        return Ok(Draft {
+            regs,
+            senses,
+            frames,
+            body,
+        });
     };
     let mut frames = frames;
     frames.push(Frame {
@@ -188,7 +208,12 @@ fn turned(alloc: Global, draft: Draft) -> Result<Draft, Memory>
         outer: last.outer,
     })?;
     let body = List::new(alloc);
-    Ok(Draft { regs, senses, frames, body })
+    Ok(Draft {
+        regs,
+        senses,
+        frames,
+        body,
+    })
 }
 
 fn whole_if(alloc: Global, test: Expr, first: Option<List<Stmt>>, body: List<Stmt>) -> Stmt
@@ -211,16 +236,31 @@ fn whole_if(alloc: Global, test: Expr, first: Option<List<Stmt>>, body: List<Stm
 fn ended(alloc: Global, draft: Draft) -> Result<Draft, Memory>
     ensures { IfOk result (λ d. d ≡ ended (last_frame draft.frames) draft) }
 {
-    let Draft { regs, senses, frames, body } = draft;
+    let Draft {
+        regs,
+        senses,
+        frames,
+        body,
+    } = draft;
     let Some((frames, last)) = last_frame(frames) else {
         let frames = List::new(alloc);
-        return Ok(Draft { regs, senses, frames, body });
+        return Ok(Draft {
+            regs,
+            senses,
+            frames,
+            body,
+        });
     };
     let Frame { test, first, outer } = last;
     let stmt = whole_if(alloc, test, first, body);
     let mut body = outer;
     body.push(stmt)?;
-    Ok(Draft { regs, senses, frames, body })
+    Ok(Draft {
+        regs,
+        senses,
+        frames,
+        body,
+    })
 }
 
 /// One more statement.

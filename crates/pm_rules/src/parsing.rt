@@ -108,7 +108,12 @@ fn finished(line: u64, draft: Draft) -> Result<Program, RuleFault>
     if !is_empty(&draft.frames) {
         return Err(RuleFault::Nesting { line });
     }
-    let Draft { regs, senses, body, .. } = draft;
+    let Draft {
+        regs,
+        senses,
+        body,
+        ..
+    } = draft;
     Ok(Program { regs, senses, body })
 }
 

@@ -158,11 +158,7 @@ fn scan_line<'a>(
 
 /// `NAME = EXPR`, after `let`.
 #[tactic(auto, unfolding(crate::specs::Statements::let_line))]
-fn let_line<'a>(
-    alloc: Global,
-    scope: &Lent<'_>,
-    tokens: &[Token<'a>],
-) -> Result<(Said, bool), Stop>
+fn let_line<'a>(alloc: Global, scope: &Lent<'_>, tokens: &[Token<'a>]) -> Result<(Said, bool), Stop>
     ensures { Gives (λ r. r) result (let_line (scope_in scope.now) (toks tokens.now)) }
 {
     let (word, rest) = name_at(tokens).ok_or(Stop::Word)?;
@@ -200,11 +196,7 @@ fn change<'a>(alloc: Global, scope: &Lent<'_>, tokens: &[Token<'a>]) -> Result<C
 }
 
 #[tactic(auto, unfolding(crate::specs::Statements::set_line))]
-fn set_line<'a>(
-    alloc: Global,
-    scope: &Lent<'_>,
-    tokens: &[Token<'a>],
-) -> Result<(Said, bool), Stop>
+fn set_line<'a>(alloc: Global, scope: &Lent<'_>, tokens: &[Token<'a>]) -> Result<(Said, bool), Stop>
     ensures { Gives (λ r. r) result (set_line (scope_in scope.now) (toks tokens.now)) }
 {
     let Changed { place, x, y, known } = change(alloc, scope, tokens)?;
@@ -212,11 +204,7 @@ fn set_line<'a>(
 }
 
 #[tactic(auto, unfolding(crate::specs::Statements::add_line))]
-fn add_line<'a>(
-    alloc: Global,
-    scope: &Lent<'_>,
-    tokens: &[Token<'a>],
-) -> Result<(Said, bool), Stop>
+fn add_line<'a>(alloc: Global, scope: &Lent<'_>, tokens: &[Token<'a>]) -> Result<(Said, bool), Stop>
     ensures { Gives (λ r. r) result (add_line (scope_in scope.now) (toks tokens.now)) }
 {
     let Changed { place, x, y, known } = change(alloc, scope, tokens)?;
@@ -248,11 +236,7 @@ fn wait_line<'a>(
 }
 
 #[tactic(auto, unfolding(crate::specs::Statements::if_line))]
-fn if_line<'a>(
-    alloc: Global,
-    scope: &Lent<'_>,
-    tokens: &[Token<'a>],
-) -> Result<(Said, bool), Stop>
+fn if_line<'a>(alloc: Global, scope: &Lent<'_>, tokens: &[Token<'a>]) -> Result<(Said, bool), Stop>
     ensures { Gives (λ r. r) result (if_line (scope_in scope.now) (toks tokens.now)) }
 {
     let (test, known) = only(alloc, scope, tokens)?;

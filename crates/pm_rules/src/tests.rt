@@ -55,7 +55,10 @@ fn texts_are_read_or_refused(rt: HostRuntime) -> Result<(), Fail> {
         ("\n\n", None),
         (" \t\n# a comment\n\r\n", None),
         ("# é", None),
-        ("reg n 0\nread a=c0\nif(a.x<1)\nset c0=(n - 1),-2\nend\n", None),
+        (
+            "reg n 0\nread a=c0\nif(a.x<1)\nset c0=(n - 1),-2\nend\n",
+            None,
+        ),
         ("set c0 = (n -1), 0", word(1)),
         ("\twait\t1# a comment", None),
         ("wait 1\r\nwait 2\r\n", None),
@@ -235,7 +238,10 @@ fn there_are_at_most_16_registers_and_16_senses(rt: HostRuntime) -> Result<(), F
     ];
     for (before, after, count, last, want) in cases {
         let text = numbered(alloc, before, after, count, last)?;
-        assert!(rt; fault_of(alloc, text.as_str(), 1) == want, "{before} {count} {last}");
+        assert!(rt;
+            fault_of(alloc, text.as_str(), 1) == want,
+            "{before} {count} {last}"
+        );
     }
     Ok(())
 }
@@ -243,11 +249,17 @@ fn there_are_at_most_16_registers_and_16_senses(rt: HostRuntime) -> Result<(), F
 /// Whether it is the set of the worked row.
 fn is_worked_set(stmt: &Stmt) -> bool {
     match stmt {
-        Stmt::Set { place: Place::Var { var: 0 }, x, y: Expr::Num(-2) } => {
+        Stmt::Set {
+            place: Place::Var { var: 0 },
+            x,
+            y: Expr::Num(-2),
+        } => {
             match x {
-                Expr::Bin { op: Op::Sub, left, right } => {
-                    matches!(left.get(), Expr::Reg(0)) && matches!(right.get(), Expr::Num(1))
-                }
+                Expr::Bin {
+                    op: Op::Sub,
+                    left,
+                    right,
+                } => { matches!(left.get(), Expr::Reg(0)) && matches!(right.get(), Expr::Num(1)) }
                 _ => false,
             }
         }
@@ -258,8 +270,18 @@ fn is_worked_set(stmt: &Stmt) -> bool {
 /// Whether it is the test of the worked row.
 fn is_worked_test(test: &Expr) -> bool {
     match test {
-        Expr::Bin { op: Op::Less, left, right } => {
-            let field = matches!(left.get(), Expr::Part { sense: 0, field: Field::X });
+        Expr::Bin {
+            op: Op::Less,
+            left,
+            right,
+        } => {
+            let field = matches!(
+                left.get(),
+                Expr::Part {
+                    sense: 0,
+                    field: Field::X
+                }
+            );
             field && matches!(right.get(), Expr::Num(1))
         }
         _ => false,
@@ -281,13 +303,24 @@ fn trees_are_as_written(rt: HostRuntime) -> Result<(), Fail> {
     }
     match program.senses.as_slice() {
         [row] => {
-            let read = matches!(row.sense, Sense::Read { place: Place::Var { var: 0 } });
+            let read = matches!(
+                row.sense,
+                Sense::Read {
+                    place: Place::Var { var: 0 }
+                }
+            );
             assert!(rt; row.name.as_str() == "a" && read);
         }
         _ => assert!(rt; false, "one sense"),
     }
     match program.body.as_slice() {
-        [Stmt::If { test, first, second }] => {
+        [
+            Stmt::If {
+                test,
+                first,
+                second,
+            },
+        ] => {
             assert!(rt; is_worked_test(test) && second.len() == 0);
             match first.as_slice() {
                 [stmt] => assert!(rt; is_worked_set(stmt)),
@@ -307,7 +340,12 @@ fn the_first_number_of_a_name_counts(rt: HostRuntime) -> Result<(), Fail> {
         return Ok(());
     };
     match program.body.as_slice() {
-        [Stmt::Set { place: Place::Var { var }, .. }] => assert!(rt; *var == 2),
+        [
+            Stmt::Set {
+                place: Place::Var { var },
+                ..
+            },
+        ] => assert!(rt; *var == 2),
         _ => assert!(rt; false, "one `set`"),
     }
     Ok(())

@@ -22,7 +22,7 @@ loop-i-preserved c = λ n.
     let before = map name_in (take i classes) in
     let len : i ≡ length before = omega (arith, length-take-le i classes, length-map (take i classes) name_in) in
     let more : map name_in (take (i + 1) classes) ≡ before ++ c.as_str.result.now ∷ [] =
-        rw (take_more classes i c.index-classes-i.result (omega arith), ← c.index-classes-i.is, map-append name_in (take i classes) (c.index-classes-i.result ∷ []), c.as_str.ensures) refl in
+    rw (take_more classes i c.index-classes-i.result (omega arith), ← c.index-classes-i.is, map-append name_in (take i classes) (c.index-classes-i.result ∷ []), c.as_str.ensures) refl in
     c.in_ok-note.ensures n
     ∙ (ap (λ o. or_here o (bytes_eq c.as_str.result.now n) i) (c.loop-i.invariant n)
     ∙ sym (ap (λ (ns : List (List ℕ)). number_of ns n) more ∙ number_of-push n before c.as_str.result.now i len (omega arith)))

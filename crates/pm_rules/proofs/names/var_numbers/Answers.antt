@@ -17,7 +17,7 @@ loop-i-preserved c = λ n.
     let i = c.loop-i.i in
     let len : i ≡ length (take i vars) = omega (arith, length-take-le i vars) in
     let more : take (i + 1) vars ≡ take i vars ++ c.as_str.result.now ∷ [] =
-        rw (take_more vars i c.index-vars-i.result (omega arith), ← c.index-vars-i.is, c.as_str.ensures) refl in
+    rw (take_more vars i c.index-vars-i.result (omega arith), ← c.index-vars-i.is, c.as_str.ensures) refl in
     c.in_ok-note.ensures n
     ∙ (ap (λ o. or_here o (bytes_eq c.as_str.result.now n) i) (c.loop-i.invariant n)
     ∙ sym (ap (λ (ns : List (List ℕ)). number_of ns n) more ∙ number_of-push n (take i vars) c.as_str.result.now i len (omega arith)))
