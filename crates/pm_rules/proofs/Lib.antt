@@ -1,6 +1,7 @@
 pub mod BackwardLaws
 pub mod CanonicalLaws
-pub mod SoundLaws
+pub mod DirectoryLaws
+pub mod DraftLaws
 pub mod FaultLaws
 pub mod FineLaws
 pub mod Found
@@ -14,12 +15,16 @@ pub mod LinesWereSpelled
 pub mod MatchedLaws
 pub mod NamesLaws
 pub mod NestingLaws
+pub mod ParsingLaws
 pub mod ProgramLaws
 pub mod ReadAgain
+pub mod ReservedLaws
 pub mod RowLaws
 pub mod ScopeLaws
 pub mod ScopesMade
+pub mod SoundLaws
 pub mod SpellingCounts
 pub mod SpellingEquations
+pub mod StatementLaws
 pub mod Variants
 pub mod WasSpelled

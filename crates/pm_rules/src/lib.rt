@@ -2,14 +2,21 @@
 #![tactic(auto)]
 
 mod draft;
+mod expression;
 mod fault;
 mod grammar_laws;
 mod laws;
 mod lexing;
 mod lines;
+mod names;
+mod parsing;
+mod places;
 mod said;
 mod spelling_laws;
+mod statements;
 mod stop;
+#[cfg(test)]
+mod tests;
 mod token;
 
 pub use fault::RuleFault;
@@ -18,3 +25,5 @@ pub use laws::some_texts;
 pub use spelling_laws::{
     read_was_spelled, spelled_in_a_larger_scope, spelled_is_read, spelled_tokens_are_counted,
 };
+pub use names::Names;
+pub use parsing::parse;
