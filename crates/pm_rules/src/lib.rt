@@ -6,9 +6,11 @@ mod fault;
 mod laws;
 mod lexing;
 mod lines;
+mod printing_laws;
 mod said;
 mod stop;
 mod token;
 
 pub use fault::RuleFault;
 pub use laws::some_texts;
+pub use printing_laws::printed_lines_are_read;
