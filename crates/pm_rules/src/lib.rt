@@ -6,6 +6,7 @@ mod fault;
 mod laws;
 mod lexing;
 mod lines;
+mod printing;
 mod printing_laws;
 mod said;
 mod stop;
@@ -13,4 +14,5 @@ mod token;
 
 pub use fault::RuleFault;
 pub use laws::some_texts;
+pub use printing::print_with;
 pub use printing_laws::printed_lines_are_read;
