@@ -5,3 +5,4 @@ pub mod PrintingNames
 pub mod PrintingDigits
 pub mod PrintingTokens
 pub mod PrintingLines
+pub mod PrintingTrees
