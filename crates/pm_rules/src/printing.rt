@@ -1,8 +1,8 @@
-ghost use Rattle.std.specs.Prelude.{◌≡◌, ◌∷◌, [], ◌++◌, ◌||◌, string_bytes, List as Seq, ℕ, map, OnOk, IfOk, codes, if◌then◌else◌};
+ghost use Rattle.std.specs.Prelude.{◌≡◌, ◌∷◌, [], ◌++◌, ◌||◌, ◌&&◌, true, string_bytes, List as Seq, ℕ, map, OnOk, IfOk, codes, if◌then◌else◌};
 ghost use Rattle.std.specs.Fmt.{signed_decimal};
 ghost use Rattle.std.specs.List.{flat_map};
 ghost use Rattle.pm_base.specs.Fits.{reg_names, sense_names};
-ghost use Rattle.pm_rules.specs.Printing.{else_text, piece_tok, pieces, scope_of};
+ghost use Rattle.pm_rules.specs.Printing.{change_sized, else_text, in_i64, is_sized, piece_tok, pieces, place_sized, program_sized, regs_sized, scope_of, sense_sized, senses_sized, stmt_sized, stmts_sized};
 ghost use Rattle.pm_rules.specs.Reading.{class_names};
 ghost use Rattle.pm_rules.specs.Spelling.{field_word, gap, joins_left, joins_right, line_text, name_in, op_token, printed, program_scope, reg_said, said_text, says, says_all, sense_said, spell, spell_change, spell_place, spell_said, spell_sense, symbol_text, text_behind, token_text};
 ghost use Rattle.pm_rules.specs.Tokens.{name, number, symbol};
@@ -244,7 +244,8 @@ fn push_part<'a>(line: &mut Vec<Piece<'a>>, sense: &'a str, field: Field) -> Res
 
 #[cycle(push_expr)]
 fn push_expr<'a>(line: &mut Vec<Piece<'a>>, words: &Words<'a>, e: &Expr) -> Result<(), Memory>
-    ensures { OnOk result (pieces line.new.items ≡ pieces line.old.items ++ spell (scope_of words.now) e.now) }
+    ensures tokens { OnOk result (pieces line.new.items ≡ pieces line.old.items ++ spell (scope_of words.now) e.now) }
+    ensures sized { OnOk result (is_sized e.now ≡ true) }
 {
     match e {
         Expr::Num(n) => push(line, Piece::Number(*n)),
@@ -263,7 +264,8 @@ fn push_expr<'a>(line: &mut Vec<Piece<'a>>, words: &Words<'a>, e: &Expr) -> Resu
 }
 
 fn push_place<'a>(line: &mut Vec<Piece<'a>>, words: &Words<'a>, place: &Place) -> Result<(), Memory>
-    ensures { OnOk result (pieces line.new.items ≡ pieces line.old.items ++ spell_place (scope_of words.now) place.now) }
+    ensures tokens { OnOk result (pieces line.new.items ≡ pieces line.old.items ++ spell_place (scope_of words.now) place.now) }
+    ensures sized { OnOk result (place_sized place.now ≡ true) }
 {
     match place {
         Place::Var { var } => push_name(line, var_name(words, *var)),
@@ -290,7 +292,8 @@ fn push_two<'a>(
     a: &Expr,
     b: &Expr,
 ) -> Result<(), Memory>
-    ensures { OnOk result (pieces line.new.items ≡ pieces line.old.items ++ (spell (scope_of words.now) a.now ++ spell (scope_of words.now) b.now)) }
+    ensures tokens { OnOk result (pieces line.new.items ≡ pieces line.old.items ++ (spell (scope_of words.now) a.now ++ spell (scope_of words.now) b.now)) }
+    ensures sized { OnOk result ((is_sized a.now && is_sized b.now) ≡ true) }
 {
     push_expr(line, words, a)?;
     push_expr(line, words, b)
@@ -302,8 +305,9 @@ fn read_line<'a>(
     word: &'a str,
     place: &Place,
 ) -> Result<(), Memory>
-    ensures { OnOk result (pieces line.new.items ≡
+    ensures tokens { OnOk result (pieces line.new.items ≡
         name (codes "read") ∷ name word.now ∷ symbol sym.Assign ∷ spell_place (scope_of words.now) place.now) }
+    ensures sized { OnOk result (place_sized place.now ≡ true) }
 {
     begin(line, "read")?;
     push_assigned(line, word)?;
@@ -316,7 +320,8 @@ fn sense_line<'a>(
     word: &'a str,
     sense: &Sense,
 ) -> Result<(), Memory>
-    ensures { OnOk result (pieces line.new.items ≡ spell_sense (scope_of words.now) word.now sense.now) }
+    ensures tokens { OnOk result (pieces line.new.items ≡ spell_sense (scope_of words.now) word.now sense.now) }
+    ensures sized { OnOk result (sense_sized sense.now ≡ true) }
 {
     match sense {
         Sense::Read { place } => read_line(line, words, word, place),
@@ -344,7 +349,8 @@ fn change_line<'a>(
     x: &Expr,
     y: &Expr,
 ) -> Result<(), Memory>
-    ensures { OnOk result (pieces line.new.items ≡ spell_change (scope_of words.now) word.now place.now x.now y.now) }
+    ensures tokens { OnOk result (pieces line.new.items ≡ spell_change (scope_of words.now) word.now place.now x.now y.now) }
+    ensures sized { OnOk result (change_sized place.now x.now y.now ≡ true) }
 {
     begin(line, word)?;
     push_place(line, words, place)?;
@@ -360,8 +366,9 @@ fn let_line<'a>(
     reg: u32,
     value: &Expr,
 ) -> Result<(), Memory>
-    ensures { OnOk result (pieces line.new.items ≡
+    ensures tokens { OnOk result (pieces line.new.items ≡
         name (codes "let") ∷ name (name_in (scope_of words.now).regs reg) ∷ symbol sym.Assign ∷ spell (scope_of words.now) value.now) }
+    ensures sized { OnOk result (is_sized value.now ≡ true) }
 {
     begin(line, "let")?;
     push_assigned(line, reg_name(words, reg))?;
@@ -375,14 +382,16 @@ fn value_line<'a>(
     word: &'a str,
     value: &Expr,
 ) -> Result<(), Memory>
-    ensures { OnOk result (pieces line.new.items ≡ name word.now ∷ spell (scope_of words.now) value.now) }
+    ensures tokens { OnOk result (pieces line.new.items ≡ name word.now ∷ spell (scope_of words.now) value.now) }
+    ensures sized { OnOk result (is_sized value.now ≡ true) }
 {
     begin(line, word)?;
     push_expr(line, words, value)
 }
 
 fn reg_line<'a>(line: &mut Vec<Piece<'a>>, word: &'a str, start: i64) -> Result<(), Memory>
-    ensures { OnOk result (pieces line.new.items ≡ name (codes "reg") ∷ name word.now ∷ number start ∷ []) }
+    ensures tokens { OnOk result (pieces line.new.items ≡ name (codes "reg") ∷ name word.now ∷ number start ∷ []) }
+    ensures sized { OnOk result (in_i64 start ≡ true) }
 {
     begin(line, "reg")?;
     push_name(line, word)?;
@@ -412,8 +421,9 @@ fn print_word<'a>(page: &mut Page<'a>, word: &'a str) -> Result<(), Memory>
 }
 
 fn print_if<'a>(page: &mut Page<'a>, words: &Words<'a>, test: &Expr) -> Result<(), Memory>
-    ensures { OnOk result (string_bytes page.new.text ≡
+    ensures text { OnOk result (string_bytes page.new.text ≡
         string_bytes page.old.text ++ said_text (scope_of words.now) (said.If test.now)) }
+    ensures sized { OnOk result (is_sized test.now ≡ true) }
 {
     value_line(&mut page.line, words, "if", test)?;
     end_line(page)
@@ -432,8 +442,9 @@ fn print_else<'a>(page: &mut Page<'a>, second: &[Stmt]) -> Result<(), Memory>
 
 #[cycle(print_stmts)]
 fn print_stmt<'a>(page: &mut Page<'a>, words: &Words<'a>, stmt: &Stmt) -> Result<(), Memory>
-    ensures { OnOk result (string_bytes page.new.text ≡
+    ensures text { OnOk result (string_bytes page.new.text ≡
         string_bytes page.old.text ++ flat_map (said_text (scope_of words.now)) (says stmt.now)) }
+    ensures sized { OnOk result (stmt_sized stmt.now ≡ true) }
 {
     match stmt {
         Stmt::Let { reg, value } => {
@@ -468,8 +479,9 @@ fn print_stmt<'a>(page: &mut Page<'a>, words: &Words<'a>, stmt: &Stmt) -> Result
 
 #[cycle(print_stmts)]
 fn print_stmts<'a>(page: &mut Page<'a>, words: &Words<'a>, stmts: &[Stmt]) -> Result<(), Memory>
-    ensures { OnOk result (string_bytes page.new.text ≡
+    ensures text { OnOk result (string_bytes page.new.text ≡
         string_bytes page.old.text ++ flat_map (said_text (scope_of words.now)) (says_all stmts.now)) }
+    ensures sized { OnOk result (stmts_sized stmts.now ≡ true) }
 {
     for stmt in stmts {
         print_stmt(page, words, stmt)?;
@@ -478,8 +490,9 @@ fn print_stmts<'a>(page: &mut Page<'a>, words: &Words<'a>, stmts: &[Stmt]) -> Re
 }
 
 fn print_regs<'a>(page: &mut Page<'a>, words: &Words<'a>) -> Result<(), Memory>
-    ensures { OnOk result (string_bytes page.new.text ≡
+    ensures text { OnOk result (string_bytes page.new.text ≡
         string_bytes page.old.text ++ flat_map (said_text (scope_of words.now)) (reg_said words.now.regs.now)) }
+    ensures sized { OnOk result (regs_sized words.now.regs.now ≡ true) }
 {
     for row in words.regs {
         reg_line(&mut page.line, row.name.as_str(), row.start)?;
@@ -489,8 +502,9 @@ fn print_regs<'a>(page: &mut Page<'a>, words: &Words<'a>) -> Result<(), Memory>
 }
 
 fn print_senses<'a>(page: &mut Page<'a>, words: &Words<'a>) -> Result<(), Memory>
-    ensures { OnOk result (string_bytes page.new.text ≡
+    ensures text { OnOk result (string_bytes page.new.text ≡
         string_bytes page.old.text ++ flat_map (said_text (scope_of words.now)) (sense_said words.now.senses.now)) }
+    ensures sized { OnOk result (senses_sized words.now.senses.now ≡ true) }
 {
     for row in words.senses {
         sense_line(&mut page.line, words, row.name.as_str(), &row.sense)?;
@@ -508,7 +522,8 @@ pub fn print_with(
     classes: &[(Name, ClassRow)],
     vars: &[Name],
 ) -> Result<String, Memory>
-    ensures { IfOk result (λ s. string_bytes s ≡ printed (record { classes = classes.now; vars = vars.now }) program.now) }
+    ensures text { IfOk result (λ s. string_bytes s ≡ printed (record { classes = classes.now; vars = vars.now }) program.now) }
+    ensures sized { IfOk result (λ _. program_sized program.now ≡ true) }
 {
     let words = Words {
         classes,
