@@ -6,3 +6,4 @@ pub mod PrintingDigits
 pub mod PrintingTokens
 pub mod PrintingLines
 pub mod PrintingTrees
+pub mod PrintingWorked
