@@ -92,4 +92,5 @@ digits_read most n ds rest w h e = rw (
   eq_true (length ds) (length ds) refl,
   take_at ds rest (length ds) refl,
   w.value,
-  le_true n most h) refl
+  le_true n most h,
+) refl

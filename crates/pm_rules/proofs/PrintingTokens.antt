@@ -122,7 +122,7 @@ lexed_one k [] rest e b some = absurd (omega arith)
 lexed_one k (c ∷ t) rest e b some =
     let less : length (c ∷ t) - 1 ≡ length t = omega arith in
     rw (b, e, less) (ap (λ (m : Option (List Tok)). option_map (λ (ts : List Tok). k ∷ ts) m) (lex_from-drop (length t) (t ++ rest)
-      ∙ ap (λ (r : List ℕ). lex_from 0 r) (drop_at t rest (length t) refl)))
+    ∙ ap (λ (r : List ℕ). lex_from 0 r) (drop_at t rest (length t) refl)))
 
 lexed_token : (k : Tok) (rest : List ℕ) → IsWritable k → Stops k rest → lex_from 0 (token_text k ++ rest) ≡ option_map (λ (ts : List Tok). k ∷ ts) (lex_from 0 rest)
 lexed_token k rest p e = let read = token_read k rest p e in lexed_one k (token_text k) rest read.token read.blank read.some

@@ -130,8 +130,11 @@ expr_level sc k x f known sized = subst AreWritable (sym (fold-roll-Expr (List T
     (f (sym (fold-roll-Expr Bool (known_step k) x) ∙ known) (sym (fold-roll-Expr Bool sized_step x) ∙ sized))
 
 bin_writable : (a b : List Tok) (o : Op) → AreWritable a → AreWritable b → AreWritable (symbol symbols.Open ∷ (a ++ (op_token o ∷ (b ++ symbol symbols.Close ∷ []))))
-bin_writable a b o h k = (tt, writable_both a (op_token o ∷ (b ++ symbol symbols.Close ∷ [])) h
-    (op_writable o, writable_both b (symbol symbols.Close ∷ []) k (tt, tt)))
+bin_writable a b o h k = (
+  tt,
+  writable_both a (op_token o ∷ (b ++ symbol symbols.Close ∷ [])) h
+      (op_writable o, writable_both b (symbol symbols.Close ∷ []) k (tt, tt)),
+)
 
 expr_case : (sc : Scope) (classes : List ClassRow) (k : Known) → Covers sc classes k → (y : Expr-F ((e : Expr) × IsSpelled sc k e)) →
     IsSpelled sc k (roll-Expr (map-Expr ((e : Expr) × IsSpelled sc k e) Expr (λ e. e.0) y))
@@ -156,9 +159,10 @@ place_writable sc classes k c (Var v) known sized =
     let low = below v k.vars known in (name_at sc.table.vars v c.named.vars (omega (arith, low, c.var_count)), tt)
 place_writable sc classes k c (Member class at) known sized =
     let knowns = both (nat_lt 0 (class_row classes class).count) (is_known k at) known in
-    let low = has_member classes class knowns.0 in
-    (name_at (class_names sc.table) class c.named.classes (omega (arith, low, c.class_count)),
-    (tt, writable_both (spell sc at) (symbol symbols.RightBracket ∷ []) (expr_writable sc classes k c at knowns.1 sized) (tt, tt)))
+    let low = has_member classes class knowns.0 in (
+      name_at (class_names sc.table) class c.named.classes (omega (arith, low, c.class_count)),
+      (tt, writable_both (spell sc at) (symbol symbols.RightBracket ∷ []) (expr_writable sc classes k c at knowns.1 sized) (tt, tt)),
+    )
 
 two_writable : (sc : Scope) (classes : List ClassRow) (k : Known) → Covers sc classes k → (a b : Expr) →
     (is_known k a && is_known k b) ≡ true → (is_sized a && is_sized b) ≡ true → AreWritable (spell sc a ++ spell sc b)
@@ -174,10 +178,20 @@ sense_writable sc classes k c w n (sense.Scan class x0 x1 y0 y1) known sized =
     let outer = both (nat_lt class (length classes) && (is_known k x0 && is_known k x1)) (is_known k y0 && is_known k y1) known in
     let inner = both (nat_lt class (length classes)) (is_known k x0 && is_known k x1) outer.0 in
     let sizes = both (is_sized x0 && is_sized x1) (is_sized y0 && is_sized y1) sized in
-    let low = below class (length classes) inner.0 in
-    (words.scan, (n, (tt, (name_at (class_names sc.table) class c.named.classes (omega (arith, low, c.class_count)),
-    subst AreWritable (append_assoc (spell sc x0) (spell sc x1) (spell sc y0 ++ spell sc y1))
-    (writable_both (spell sc x0 ++ spell sc x1) (spell sc y0 ++ spell sc y1) (two_writable sc classes k c x0 x1 inner.1 sizes.0) (two_writable sc classes k c y0 y1 outer.1 sizes.1))))))
+    let low = below class (length classes) inner.0 in (
+      words.scan,
+      (
+        n,
+        (
+          tt,
+          (
+            name_at (class_names sc.table) class c.named.classes (omega (arith, low, c.class_count)),
+            subst AreWritable (append_assoc (spell sc x0) (spell sc x1) (spell sc y0 ++ spell sc y1))
+                (writable_both (spell sc x0 ++ spell sc x1) (spell sc y0 ++ spell sc y1) (two_writable sc classes k c x0 x1 inner.1 sizes.0) (two_writable sc classes k c y0 y1 outer.1 sizes.1)),
+          ),
+        ),
+      ),
+    )
 
 change_writable : (sc : Scope) (classes : List ClassRow) (k : Known) → Covers sc classes k → (w : List ℕ) → is_name w ≡ true → (place : Place) (x y : Expr) →
     (place_known classes k place && (is_known k x && is_known k y)) ≡ true → change_sized place x y ≡ true → AreWritable (spell_change sc w place x y)
@@ -185,11 +199,15 @@ change_writable sc classes k c w n place x y known sized =
     let outer = both (place_known classes k place) (is_known k x && is_known k y) known in
     let inner = both (is_known k x) (is_known k y) outer.1 in
     let sizes = both (place_sized place) (is_sized x && is_sized y) sized in
-    let parts = both (is_sized x) (is_sized y) sizes.1 in
-    (n, writable_both (spell_place sc place) (symbol symbols.Assign ∷ (spell sc x ++ (symbol symbols.Comma ∷ spell sc y)))
-      (place_writable sc classes k c place outer.0 sizes.0)
-      (tt, writable_both (spell sc x) (symbol symbols.Comma ∷ spell sc y) (expr_writable sc classes k c x inner.0 parts.0)
-      (tt, expr_writable sc classes k c y inner.1 parts.1)))
+    let parts = both (is_sized x) (is_sized y) sizes.1 in (
+      n,
+      writable_both (spell_place sc place) (symbol symbols.Assign ∷ (spell sc x ++ (symbol symbols.Comma ∷ spell sc y)))
+          (place_writable sc classes k c place outer.0 sizes.0) (
+            tt,
+            writable_both (spell sc x) (symbol symbols.Comma ∷ spell sc y) (expr_writable sc classes k c x inner.0 parts.0)
+                (tt, expr_writable sc classes k c y inner.1 parts.1),
+          ),
+    )
 
 abbrev pub AreSaid : Scope → List Said → Type 0
 AreSaid sc ss = AllByRecursion (λ (s : Said). AreWritable (spell_said sc s)) ss
@@ -230,20 +248,23 @@ stmt_case : (sc : Scope) (classes : List ClassRow) (k : Known) → Covers sc cla
 stmt_case sc classes k c (Stmt-F.Let reg e) = stmt_level sc classes k (Stmt-F.Let reg e) (λ known sized.
     let line = both (in_line (3 + tokens_of e)) (nat_lt reg k.regs && is_known k e) known in
     let parts = both (nat_lt reg k.regs) (is_known k e) line.1 in
-    let low = below reg k.regs parts.0 in
-    (does_writable sc (Stmt-F.Let reg e) (stmt.Let reg e) (stmt.rolls-Let reg e)
-      (words.lets, (name_at sc.regs reg c.regs (omega (arith, low, c.reg_count)), (tt, expr_writable sc classes k c e parts.1 sized))), tt))
+    let low = below reg k.regs parts.0 in (
+      does_writable sc (Stmt-F.Let reg e) (stmt.Let reg e) (stmt.rolls-Let reg e)
+          (words.lets, (name_at sc.regs reg c.regs (omega (arith, low, c.reg_count)), (tt, expr_writable sc classes k c e parts.1 sized))),
+      tt,
+    ))
 stmt_case sc classes k c (Stmt-F.If test first second) = stmt_level sc classes k (Stmt-F.If test (map (λ c. c.0) first) (map (λ c. c.0) second)) (λ known sized.
     let outer = both (in_line (1 + tokens_of test) && is_known k test) (all_true (map (stmt_fits classes k) (map (λ c. c.0) first)) && all_true (map (stmt_fits classes k) (map (λ c. c.0) second))) known in
     let head = both (in_line (1 + tokens_of test)) (is_known k test) outer.0 in
     let lists = both (all_true (map (stmt_fits classes k) (map (λ c. c.0) first))) (all_true (map (stmt_fits classes k) (map (λ c. c.0) second))) outer.1 in
     let sizes = both (is_sized test) (all_true (map stmt_sized (map (λ c. c.0) first)) && all_true (map stmt_sized (map (λ c. c.0) second))) sized in
-    let inner = both (all_true (map stmt_sized (map (λ c. c.0) first))) (all_true (map stmt_sized (map (λ c. c.0) second))) sizes.1 in
-    ((words.ifs, expr_writable sc classes k c test head.1 sizes.0),
-    said_both sc (concat (map says (map (λ c. c.0) first))) (else_said (map says (map (λ c. c.0) second)) ++ said.End ∷ [])
-      (list_said sc classes k first lists.0 inner.0)
-      (said_both sc (else_said (map says (map (λ c. c.0) second))) (said.End ∷ [])
-        (else_list sc classes k second (list_said sc classes k second lists.1 inner.1)) ((words.ends, tt), tt))))
+    let inner = both (all_true (map stmt_sized (map (λ c. c.0) first))) (all_true (map stmt_sized (map (λ c. c.0) second))) sizes.1 in (
+      (words.ifs, expr_writable sc classes k c test head.1 sizes.0),
+      said_both sc (concat (map says (map (λ c. c.0) first))) (else_said (map says (map (λ c. c.0) second)) ++ said.End ∷ [])
+          (list_said sc classes k first lists.0 inner.0)
+          (said_both sc (else_said (map says (map (λ c. c.0) second))) (said.End ∷ [])
+          (else_list sc classes k second (list_said sc classes k second lists.1 inner.1)) ((words.ends, tt), tt)),
+    ))
 stmt_case sc classes k c (Stmt-F.Set place x y) = stmt_level sc classes k (Stmt-F.Set place x y) (λ known sized.
     let line = both (in_line (change_tokens place x y)) (place_known classes k place && (is_known k x && is_known k y)) known in
     (does_writable sc (Stmt-F.Set place x y) (stmt.Set place x y) (stmt.rolls-Set place x y) (change_writable sc classes k c (codes "set") words.sets place x y line.1 sized), tt))
@@ -273,8 +294,13 @@ regs_said sc (row ∷ rows) names sized =
 
 more_senses : (sc : Scope) (classes : List ClassRow) (k : Known) → Covers sc classes k → k.senses + 1 ≤ length sc.senses → Covers sc classes (record k { senses = k.senses + 1 })
 more_senses sc classes k c low = record {
-  named = c.named; regs = c.regs; senses = c.senses;
-  var_count = c.var_count; class_count = c.class_count; reg_count = c.reg_count; sense_count = low;
+  named = c.named;
+  regs = c.regs;
+  senses = c.senses;
+  var_count = c.var_count;
+  class_count = c.class_count;
+  reg_count = c.reg_count;
+  sense_count = low;
 }
 
 senses_said : (sc : Scope) (classes : List ClassRow) (k : Known) → Covers sc classes k → (rows : List SenseRow) → AreNames (sense_names rows) →
@@ -283,9 +309,10 @@ senses_said sc classes k c [] names few known sized = tt
 senses_said sc classes k c (row ∷ rows) names few known sized =
     let knowns = both (in_line (sense_tokens row.sense) && sense_known classes k row.sense) (senses_fit classes (record k { senses = k.senses + 1 }) rows) known in
     let here = both (in_line (sense_tokens row.sense)) (sense_known classes k row.sense) knowns.0 in
-    let sizes = both (sense_sized row.sense) (senses_sized rows) sized in
-    (sense_writable sc classes k c row.name names.0 row.sense here.1 sizes.0,
-    senses_said sc classes (record k { senses = k.senses + 1 }) (more_senses sc classes k c (omega (arith, few))) rows names.1 (omega (arith, few)) knowns.1 sizes.1)
+    let sizes = both (sense_sized row.sense) (senses_sized rows) sized in (
+      sense_writable sc classes k c row.name names.0 row.sense here.1 sizes.0,
+      senses_said sc classes (record k { senses = k.senses + 1 }) (more_senses sc classes k c (omega (arith, few))) rows names.1 (omega (arith, few)) knowns.1 sizes.1,
+    )
 
 names_of : (names : List (List ℕ)) → names_fit names ≡ true → AreNames names
 names_of [] e = tt
@@ -324,15 +351,25 @@ program-writable t p named count fit sized =
     let rows = length-map t.classes (λ (c : List ℕ × ClassRow). c.0) in
     let others = length-map t.classes (λ (c : List ℕ × ClassRow). c.1) in
     let at_first : Covers (program_scope t p) (class_rows t) (known_before (class_rows t) p 0) = record {
-      named = named; regs = names.0; senses = names.1;
-      var_count = omega (arith, count); class_count = omega (arith, rows, others); reg_count = omega (arith, regs); sense_count = omega arith;
+      named = named;
+      regs = names.0;
+      senses = names.1;
+      var_count = omega (arith, count);
+      class_count = omega (arith, rows, others);
+      reg_count = omega (arith, regs);
+      sense_count = omega arith;
     } in
     let in_body : Covers (program_scope t p) (class_rows t) (known_before (class_rows t) p (length p.senses)) = record {
-      named = named; regs = names.0; senses = names.1;
-      var_count = omega (arith, count); class_count = omega (arith, rows, others); reg_count = omega (arith, regs); sense_count = omega (arith, senses);
+      named = named;
+      regs = names.0;
+      senses = names.1;
+      var_count = omega (arith, count);
+      class_count = omega (arith, rows, others);
+      reg_count = omega (arith, regs);
+      sense_count = omega (arith, senses);
     } in
     said_both (program_scope t p) (reg_said p.regs) (sense_said p.senses ++ says_all p.body)
-      (regs_said (program_scope t p) p.regs names.0 sizes.0)
-      (said_both (program_scope t p) (sense_said p.senses) (says_all p.body)
-        (senses_said (program_scope t p) (class_rows t) (known_before (class_rows t) p 0) at_first p.senses names.1 (omega (arith, senses)) parts.0 inner.0)
-        (body_said (program_scope t p) (class_rows t) (known_before (class_rows t) p (length p.senses)) in_body p.body parts.1 inner.1))
+    (regs_said (program_scope t p) p.regs names.0 sizes.0)
+    (said_both (program_scope t p) (sense_said p.senses) (says_all p.body)
+    (senses_said (program_scope t p) (class_rows t) (known_before (class_rows t) p 0) at_first p.senses names.1 (omega (arith, senses)) parts.0 inner.0)
+    (body_said (program_scope t p) (class_rows t) (known_before (class_rows t) p (length p.senses)) in_body p.body parts.1 inner.1))

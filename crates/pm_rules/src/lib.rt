@@ -8,6 +8,8 @@ mod lexing;
 mod lines;
 mod printing;
 mod printing_laws;
+#[cfg(test)]
+mod printing_tests;
 mod said;
 mod stop;
 mod token;

@@ -59,7 +59,10 @@ fn symbol_text(symbol: Symbol) -> &'static str
 fn joins_right(piece: &Piece<'_>) -> bool
     ensures { result ≡ joins_right (piece_tok piece.now) }
 {
-    matches!(piece, Piece::Symbol(Symbol::Open | Symbol::LeftBracket | Symbol::Dot))
+    matches!(
+        piece,
+        Piece::Symbol(Symbol::Open | Symbol::LeftBracket | Symbol::Dot)
+    )
 }
 
 fn joins_left(piece: &Piece<'_>) -> bool
@@ -112,7 +115,11 @@ fn add_gap(out: &mut String, a: &Piece<'_>, b: &Piece<'_>) -> Result<(), Memory>
     }
 }
 
-fn add_behind<'a, 'b>(out: &mut String, first: &'b Piece<'a>, rest: &'b [Piece<'a>]) -> Result<(), Memory>
+fn add_behind<'a, 'b>(
+    out: &mut String,
+    first: &'b Piece<'a>,
+    rest: &'b [Piece<'a>],
+) -> Result<(), Memory>
     ensures { OnOk result (string_bytes out.new ≡ string_bytes out.old ++ text_behind (piece_tok first.now) (pieces rest.now)) }
 {
     let mut before = first;

@@ -14,8 +14,6 @@ pub fn printed_lines_are_read()
     ensures tokens { (ts : List Tok) → AreWritable ts → lex (line_text ts) ≡ Some ts }
     ensures code { (ts : List Tok) → AreWritable ts → code (line_text ts) ≡ line_text ts }
     ensures one_line { (ts : List Tok) → AreWritable ts → IsOneLine (line_text ts) }
-    ensures lines {
-        (t : Table) (p : Tree) → AllByRecursion (λ s. AreWritable (spell_said (program_scope t p) s)) (program_says p) →
-        lines_of (printed t p) ≡ map (λ s. line_text (spell_said (program_scope t p) s)) (program_says p) ++ [] ∷ []
-    }
+    ensures lines { (t : Table) (p : Tree) → AllByRecursion (λ s. AreWritable (spell_said (program_scope t p) s)) (program_says p) →
+        lines_of (printed t p) ≡ map (λ s. line_text (spell_said (program_scope t p) s)) (program_says p) ++ [] ∷ [] }
 {}
