@@ -16,6 +16,12 @@ pub mod MatchedLaws
 pub mod NamesLaws
 pub mod NestingLaws
 pub mod ParsingLaws
+pub mod PrintingDigits
+pub mod PrintingLines
+pub mod PrintingNames
+pub mod PrintingTokens
+pub mod PrintingTrees
+pub mod PrintingWorked
 pub mod ProgramLaws
 pub mod ReadAgain
 pub mod ReservedLaws
