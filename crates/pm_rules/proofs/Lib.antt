@@ -16,6 +16,7 @@ pub mod MatchedLaws
 pub mod NamesLaws
 pub mod NestingLaws
 pub mod ParsingLaws
+pub mod PrintedLaws
 pub mod PrintingDigits
 pub mod PrintingLines
 pub mod PrintingNames

@@ -273,3 +273,11 @@ fits_fine t version p which count fit of_version =
     (senses_to t version p.regs p.senses [] (says_all p.body) names.0 (omega (arith, le_is (length p.senses) 16 few.1))
     (ap (λ (k : Known). senses_fit (class_rows t) k p.senses) (none_known t p count) ∙ known.0)
     (body_to t version which p.body (with_senses p.regs p.senses) good))
+
+-- a program that fits has few lines
+pub fits_lines : (p : Program) (l : Layout) → fits p l ≡ true → length p.regs + length p.senses + lines_of_all p.body ≤ 200
+unfolding fits tree_fits
+fits_lines p l fit =
+    let names = both (names_fit (reg_names p.regs ++ sense_names p.senses)) _ (both (are_few p) _ fit).1 in
+    let tree = both (is_short p) _ names.1 in
+    le_is (length p.regs + length p.senses + lines_of_all p.body) 200 (both _ (nat_le (depth_of_all p.body) 8) tree.0).0
