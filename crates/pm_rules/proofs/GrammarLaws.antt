@@ -4,6 +4,7 @@ use Rattle.std.specs.List.{AllByRecursion}
 use Rattle.std.specs.Prelude.{map}
 use Rattle.std.proofs.lemmas.List.{length-map}
 use Rattle.std.proofs.lemmas.Option.{same_Some}
+use Rattle.pm_base.specs.Fits.{fits}
 use Rattle.pm_base.specs.Layouts.{var_count}
 use Rattle.pm_base.specs.declared.program.Program.{Program}
 use Rattle.pm_rules.specs.Grammar.{IsRule, IsShort, IsTable, Row, drops_else, or_none, rows_from, without_idle_else}
@@ -132,3 +133,8 @@ rule_accepted t version text p which table rule =
     let lines : after_lines t version 1 (lines_of text) empty ≡ Ok (draft_of p) =
     lines_go_as_rows t version (lines_of text) 1 rule.rows empty rule.lexed rule.short ∙ rows ∙ ap (λ (d : Draft). Ok d) end in
     ap (λ (o : Result Draft RuleFault). go_on (finished (length (lines_of text) + 1)) o) lines ∙ finished_whole (length (lines_of text) + 1) p
+
+-- what is accepted fits
+pub accepted_fits : (t : Table) (version : ℕ) (text : List ℕ) (p : Program) → parsed t version text ≡ Ok p → length t.vars ≡ var_count (class_rows t) →
+    fits p (record { classes = class_rows t }) ≡ true
+accepted_fits t version text p is count = (accepted_rule t version text p count is).fits

@@ -136,3 +136,8 @@ printed_rule t p table named fit sized =
 pub printed_again : (t : Table) (p : Program) → IsTable t → IsNamed t → fits p (layout_of t) ≡ true → program_sized p ≡ true →
     parsed t 2 (printed t p) ≡ Ok p
 printed_again t p table named fit sized = rule_accepted t 2 (printed t p) p (inr refl) table (printed_rule t p table named fit sized)
+
+-- the same of a text that is the printed form
+pub printed_back : (t : Table) (p : Program) (s : List ℕ) → s ≡ printed t p → program_sized p ≡ true → IsTable t → IsNamed t → fits p (layout_of t) ≡ true →
+    parsed t 2 s ≡ Ok p
+printed_back t p s is sized table named fit = ap (λ (x : List ℕ). parsed t 2 x) is ∙ printed_again t p table named fit sized

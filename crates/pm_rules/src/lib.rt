@@ -28,7 +28,7 @@ pub use grammar_laws::{accepted_texts_are_rules, refusals_are_first_faults, rule
 pub use laws::some_texts;
 pub use names::Names;
 pub use parsing::parse;
-pub use printing::print_with;
+pub use printing::print;
 pub use printing_laws::{printed_lines_are_read, printed_rules_read_back};
 pub use spelling_laws::{
     read_was_spelled, spelled_in_a_larger_scope, spelled_is_read, spelled_tokens_are_counted,

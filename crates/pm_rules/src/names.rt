@@ -136,4 +136,18 @@ impl<'a> Names<'a> {
             None => false,
         }
     }
+
+    /// The classes in order, each with its members.
+    pub fn classes(&self) -> &[(Name, ClassRow)]
+        ensures { result.now ≡ self.now.classes }
+    {
+        self.classes.as_slice()
+    }
+
+    /// The variables in order.
+    pub fn vars(&self) -> &[Name]
+        ensures { result.now ≡ self.now.vars }
+    {
+        self.vars.as_slice()
+    }
 }

@@ -1,5 +1,8 @@
-ghost use Rattle.std.specs.Prelude.{◌≡◌, ◌≢◌, ◌<◌, ◌+◌, ◌^◌, Ok, Err, IfOk, IfErr, Some, length, map};
+ghost use Rattle.std.specs.Prelude.{◌≡◌, true, ◌≢◌, ◌<◌, ◌+◌, ◌^◌, Ok, Err, IfOk, IfErr, Some, length, map};
+ghost use Rattle.pm_base.specs.Fits.{fits};
+ghost use Rattle.pm_base.specs.Layouts.{var_count};
 ghost use Rattle.pm_rules.specs.Answers.{Reads};
+ghost use Rattle.pm_rules.specs.Reading.{class_rows};
 ghost use Rattle.pm_rules.specs.Lines.{lines_of};
 ghost use Rattle.pm_rules.specs.Rules.{empty, after_read, after_tokens, after_line, after_lines, finished, parsed};
 ghost use Rattle.pm_rules.specs.Tokens.{toks};
@@ -117,13 +120,9 @@ fn finished(line: u64, draft: Draft) -> Result<Program, RuleFault>
     Ok(Program { regs, senses, body })
 }
 
-/// The program of a rule's text in that version of the rule language, where the names stand for what is given.
-///
-/// # Errors
-///
-/// The first fault of the first faulty line, or `Memory`.
+/// The program of a text, or its first fault.
 #[tactic(auto, unfolding(crate::specs::Rules::parsed))]
-pub fn parse(
+fn parse_lines(
     alloc: Global,
     text: &str,
     names: &Names<'_>,
@@ -135,4 +134,24 @@ pub fn parse(
     let lines = lines_of(alloc, text.as_bytes())?;
     let draft = after_lines(alloc, names, version, lines.as_slice())?;
     finished(lines.len() as u64 + 1, draft)
+}
+
+/// The program of a rule's text in that version of the rule language, where the names stand for what is given.
+///
+/// # Errors
+///
+/// The first fault of the first faulty line, or `Memory`.
+pub fn parse(
+    alloc: Global,
+    text: &str,
+    names: &Names<'_>,
+    version: u32,
+) -> Result<Program, RuleFault>
+    ensures tree { IfOk result (λ p. parsed names.now version text.now ≡ Ok p) }
+    ensures fault { IfErr result (λ f. f ≢ fault.Memory → parsed names.now version text.now ≡ Err f) }
+    ensures fits { length names.now.vars ≡ var_count (class_rows names.now) →
+        IfOk result (λ p. fits p (record { classes = class_rows names.now }) ≡ true) }
+{
+    let program = parse_lines(alloc, text, names, version)?;
+    Ok(program)
 }

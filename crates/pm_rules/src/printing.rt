@@ -1,14 +1,17 @@
-ghost use Rattle.std.specs.Prelude.{◌≡◌, ◌∷◌, [], ◌++◌, ◌||◌, ◌&&◌, true, string_bytes, List as Seq, ℕ, map, OnOk, IfOk, codes, if◌then◌else◌};
+ghost use Rattle.std.specs.Prelude.{◌≡◌, Ok, ◌∷◌, [], ◌++◌, ◌||◌, ◌&&◌, true, string_bytes, List as Seq, ℕ, map, OnOk, IfOk, codes, if◌then◌else◌};
 ghost use Rattle.std.specs.Fmt.{signed_decimal};
 ghost use Rattle.std.specs.List.{flat_map};
-ghost use Rattle.pm_base.specs.Fits.{reg_names, sense_names};
-ghost use Rattle.pm_rules.specs.Printing.{change_sized, else_text, in_i64, is_sized, piece_tok, pieces, place_sized, program_sized, regs_sized, scope_of, sense_sized, senses_sized, stmt_sized, stmts_sized};
-ghost use Rattle.pm_rules.specs.Reading.{class_names};
+ghost use Rattle.pm_base.specs.Fits.{fits, reg_names, sense_names};
+ghost use Rattle.pm_rules.specs.Grammar.{IsTable};
+ghost use Rattle.pm_rules.specs.Rules.{parsed};
+ghost use Rattle.pm_rules.specs.Printing.{IsNamed, change_sized, else_text, in_i64, is_sized, piece_tok, pieces, place_sized, program_sized, regs_sized, scope_of, sense_sized, senses_sized, stmt_sized, stmts_sized};
+ghost use Rattle.pm_rules.specs.Reading.{class_names, class_rows};
 ghost use Rattle.pm_rules.specs.Spelling.{field_word, gap, joins_left, joins_right, line_text, name_in, op_token, printed, program_scope, reg_said, said_text, says, says_all, sense_said, spell, spell_change, spell_place, spell_said, spell_sense, symbol_text, text_behind, token_text};
 ghost use Rattle.pm_rules.specs.Tokens.{name, number, symbol};
 ghost use Rattle.pm_rules.specs.declared.said.Said.TheVariants as said;
 ghost use Rattle.pm_rules.specs.declared.token.Symbol.TheVariants as sym;
 
+use crate::names::Names;
 use crate::token::Symbol;
 use itoa::Buffer;
 use pm_base::{
@@ -523,7 +526,7 @@ fn print_senses<'a>(page: &mut Page<'a>, words: &Words<'a>) -> Result<(), Memory
 /// The printed form of a program over these classes and variables: one statement a line, each ended by a line feed.
 /// A number that has no name is written as nothing.
 #[tactic(auto, unfolding(crate::specs::Spelling::printed))]
-pub fn print_with(
+fn print_with(
     alloc: Global,
     program: &Program,
     classes: &[(Name, ClassRow)],
@@ -546,5 +549,29 @@ pub fn print_with(
     print_senses(&mut page, &words)?;
     print_stmts(&mut page, &words, program.body.as_slice())?;
     let Page { text, .. } = page;
+    Ok(text)
+}
+
+/// The same over the names of a scenario.
+fn print_text(alloc: Global, program: &Program, names: &Names<'_>) -> Result<String, Memory>
+    ensures text { IfOk result (λ s. string_bytes s ≡ printed names.now program.now) }
+    ensures sized { IfOk result (λ _. program_sized program.now ≡ true) }
+{
+    print_with(alloc, program, names.classes(), names.vars())
+}
+
+/// The printed form of a program: a statement a line, each ended by a line feed, without indentation. A number without
+/// a name prints nothing.
+///
+/// # Errors
+///
+/// Want of memory alone.
+pub fn print(alloc: Global, program: &Program, names: &Names<'_>) -> Result<String, Memory>
+    ensures text { IfOk result (λ s. string_bytes s ≡ printed names.now program.now) }
+    ensures again { IsTable names.now → IsNamed names.now →
+        fits program.now (record { classes = class_rows names.now }) ≡ true →
+        IfOk result (λ s. parsed names.now 2 (string_bytes s) ≡ Ok program.now) }
+{
+    let text = print_text(alloc, program, names)?;
     Ok(text)
 }

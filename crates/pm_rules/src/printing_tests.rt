@@ -1,4 +1,4 @@
-use crate::print_with;
+use crate::{Names, print};
 use pm_base::{
     Boxed, ClassRow, Expr, Field, List, Memory, Name, Op, Place, Program, RegRow, Sense, SenseRow,
     Stmt,
@@ -34,14 +34,18 @@ fn class(alloc: Global, name: &str, first: u32, count: u32) -> Result<(Name, Cla
 
 /// What the program prints where the classes are `cell` with `c0` and `c1`, and `mark` with `m0`.
 fn printed(alloc: Global, program: &Program) -> Result<String, Memory> {
-    let mut classes = Vec::new(alloc);
+    let mut classes = List::new(alloc);
     classes.push(class(alloc, "cell", 0, 2)?)?;
     classes.push(class(alloc, "mark", 2, 1)?)?;
-    let mut vars = Vec::new(alloc);
+    let mut vars = List::new(alloc);
     vars.push(Name::make(alloc, "c0")?)?;
     vars.push(Name::make(alloc, "c1")?)?;
     vars.push(Name::make(alloc, "m0")?)?;
-    print_with(alloc, program, classes.as_slice(), vars.as_slice())
+    if classes.len() > 2 || vars.len() > 3 {
+        return Err(Memory);
+    }
+    let names = Names::make(alloc, &classes, &vars)?;
+    print(alloc, program, &names)
 }
 
 /// The rule of a text that isn't laid out as printing does.
