@@ -6,4 +6,5 @@ pub mod PrintingDigits
 pub mod PrintingTokens
 pub mod PrintingLines
 pub mod PrintingTrees
+pub mod PrintingRows
 pub mod PrintingWorked

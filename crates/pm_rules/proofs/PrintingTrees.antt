@@ -30,7 +30,7 @@ use Rattle.pm_base.specs.declared.program.Stmt.TheFolds.{fold-roll-Stmt, ind-Stm
 use Rattle.pm_base.specs.declared.program.Stmt.TheOpen.{Stmt-F}
 use Rattle.pm_base.specs.declared.program.Stmt.TheViews.{roll-Stmt}
 use Rattle.pm_base.specs.declared.program.Stmt.TheVariants as stmt
-use Rattle.pm_rules.specs.Printing.{AreNames, AreWritable, IsNamed, IsWritable, change_sized, in_i64, is_sized, place_sized, program_sized, regs_sized, sense_sized, senses_sized, sized_step, stmt_sized, stmt_sized_step, stmts_sized}
+use Rattle.pm_rules.specs.Printing.{AreNames, AreWritable, AreWritten, IsNamed, IsWritable, IsWritten, change_sized, in_i64, is_sized, place_sized, program_sized, regs_sized, sense_sized, senses_sized, sized_step, stmt_sized, stmt_sized_step, stmts_sized}
 use Rattle.pm_rules.specs.Reading.{Scope, Table, class_names, class_rows}
 use Rattle.pm_rules.specs.Spelling.{concat, else_said, field_word, name_in, op_token, program_says, program_scope, reg_said, says, says_all, says_step, sense_said, spell, spell_change, spell_does, spell_does_step, spell_place, spell_said, spell_sense, spell_step}
 use Rattle.pm_rules.specs.Tokens.{Tok, name, number, symbol}
@@ -209,11 +209,19 @@ change_writable sc classes k c w n place x y known sized =
           ),
     )
 
+-- a line of a first token and others
+written : (k : Tok) (ts : List Tok) → AreWritable (k ∷ ts) → IsWritten (k ∷ ts)
+written k ts all = record { tokens = all; some = omega arith }
+
+sense_written : (sc : Scope) (w : List ℕ) (s : Sense) → AreWritable (spell_sense sc w s) → IsWritten (spell_sense sc w s)
+sense_written sc w (sense.Read place) all = written _ _ all
+sense_written sc w (sense.Scan class x0 x1 y0 y1) all = written _ _ all
+
 abbrev pub AreSaid : Scope → List Said → Type 0
-AreSaid sc ss = AllByRecursion (λ (s : Said). AreWritable (spell_said sc s)) ss
+AreSaid sc ss = AllByRecursion (λ (s : Said). IsWritten (spell_said sc s)) ss
 
 said_both : (sc : Scope) (a b : List Said) → AreSaid sc a → AreSaid sc b → AreSaid sc (a ++ b)
-said_both sc a b h k = all_both (λ (s : Said). AreWritable (spell_said sc s)) a b h k
+said_both sc a b h k = all_both (λ (s : Said). IsWritten (spell_said sc s)) a b h k
 
 abbrev IsSaid : Scope → List ClassRow → Known → Stmt → Type 0
 IsSaid sc classes k s = stmt_fits classes k s ≡ true → stmt_sized s ≡ true → AreSaid sc (says s)
@@ -226,8 +234,8 @@ stmt_level sc classes k x f known sized = subst (AreSaid sc) (sym (fold-roll-Stm
     (f (sym (fold-roll-Stmt Bool (stmt_fits_step classes k) x) ∙ known) (sym (fold-roll-Stmt Bool stmt_sized_step x) ∙ sized))
 
 -- a statement that is a line of its own
-does_writable : (sc : Scope) (x : Stmt-F Stmt) (s : Stmt) → roll-Stmt x ≡ s → AreWritable (spell_does_step sc (map-Stmt Stmt (List Tok) (spell_does sc) x)) → AreWritable (spell_does sc s)
-does_writable sc x s is h = subst (λ (s : Stmt). AreWritable (spell_does sc s)) is (subst AreWritable (sym (fold-roll-Stmt (List Tok) (spell_does_step sc) x)) h)
+does_written : (sc : Scope) (x : Stmt-F Stmt) (s : Stmt) → roll-Stmt x ≡ s → IsWritten (spell_does_step sc (map-Stmt Stmt (List Tok) (spell_does sc) x)) → IsWritten (spell_does sc s)
+does_written sc x s is h = subst (λ (s : Stmt). IsWritten (spell_does sc s)) is (subst IsWritten (sym (fold-roll-Stmt (List Tok) (spell_does_step sc) x)) h)
 
 list_said : (sc : Scope) (classes : List ClassRow) (k : Known) (cs : List ((s : Stmt) × IsSaid sc classes k s)) →
     all_true (map (stmt_fits classes k) (map (λ c. c.0) cs)) ≡ true → all_true (map stmt_sized (map (λ c. c.0) cs)) ≡ true →
@@ -241,7 +249,7 @@ list_said sc classes k (c ∷ cs) known sized =
 else_list : (sc : Scope) (classes : List ClassRow) (k : Known) (cs : List ((s : Stmt) × IsSaid sc classes k s)) →
     AreSaid sc (concat (map says (map (λ c. c.0) cs))) → AreSaid sc (else_said (map says (map (λ c. c.0) cs)))
 else_list sc classes k [] all = tt
-else_list sc classes k (c ∷ cs) all = ((words.elses, tt), all)
+else_list sc classes k (c ∷ cs) all = (written _ _ (words.elses, tt), all)
 
 stmt_case : (sc : Scope) (classes : List ClassRow) (k : Known) → Covers sc classes k → (y : Stmt-F ((s : Stmt) × IsSaid sc classes k s)) →
     IsSaid sc classes k (roll-Stmt (map-Stmt ((s : Stmt) × IsSaid sc classes k s) Stmt (λ c. c.0) y))
@@ -249,8 +257,8 @@ stmt_case sc classes k c (Stmt-F.Let reg e) = stmt_level sc classes k (Stmt-F.Le
     let line = both (in_line (3 + tokens_of e)) (nat_lt reg k.regs && is_known k e) known in
     let parts = both (nat_lt reg k.regs) (is_known k e) line.1 in
     let low = below reg k.regs parts.0 in (
-      does_writable sc (Stmt-F.Let reg e) (stmt.Let reg e) (stmt.rolls-Let reg e)
-          (words.lets, (name_at sc.regs reg c.regs (omega (arith, low, c.reg_count)), (tt, expr_writable sc classes k c e parts.1 sized))),
+      does_written sc (Stmt-F.Let reg e) (stmt.Let reg e) (stmt.rolls-Let reg e)
+          (written _ _ (words.lets, (name_at sc.regs reg c.regs (omega (arith, low, c.reg_count)), (tt, expr_writable sc classes k c e parts.1 sized)))),
       tt,
     ))
 stmt_case sc classes k c (Stmt-F.If test first second) = stmt_level sc classes k (Stmt-F.If test (map (λ c. c.0) first) (map (λ c. c.0) second)) (λ known sized.
@@ -259,21 +267,21 @@ stmt_case sc classes k c (Stmt-F.If test first second) = stmt_level sc classes k
     let lists = both (all_true (map (stmt_fits classes k) (map (λ c. c.0) first))) (all_true (map (stmt_fits classes k) (map (λ c. c.0) second))) outer.1 in
     let sizes = both (is_sized test) (all_true (map stmt_sized (map (λ c. c.0) first)) && all_true (map stmt_sized (map (λ c. c.0) second))) sized in
     let inner = both (all_true (map stmt_sized (map (λ c. c.0) first))) (all_true (map stmt_sized (map (λ c. c.0) second))) sizes.1 in (
-      (words.ifs, expr_writable sc classes k c test head.1 sizes.0),
+      written _ _ (words.ifs, expr_writable sc classes k c test head.1 sizes.0),
       said_both sc (concat (map says (map (λ c. c.0) first))) (else_said (map says (map (λ c. c.0) second)) ++ said.End ∷ [])
           (list_said sc classes k first lists.0 inner.0)
           (said_both sc (else_said (map says (map (λ c. c.0) second))) (said.End ∷ [])
-          (else_list sc classes k second (list_said sc classes k second lists.1 inner.1)) ((words.ends, tt), tt)),
+          (else_list sc classes k second (list_said sc classes k second lists.1 inner.1)) (written _ _ (words.ends, tt), tt)),
     ))
 stmt_case sc classes k c (Stmt-F.Set place x y) = stmt_level sc classes k (Stmt-F.Set place x y) (λ known sized.
     let line = both (in_line (change_tokens place x y)) (place_known classes k place && (is_known k x && is_known k y)) known in
-    (does_writable sc (Stmt-F.Set place x y) (stmt.Set place x y) (stmt.rolls-Set place x y) (change_writable sc classes k c (codes "set") words.sets place x y line.1 sized), tt))
+    (does_written sc (Stmt-F.Set place x y) (stmt.Set place x y) (stmt.rolls-Set place x y) (written _ _ (change_writable sc classes k c (codes "set") words.sets place x y line.1 sized)), tt))
 stmt_case sc classes k c (Stmt-F.Add place x y) = stmt_level sc classes k (Stmt-F.Add place x y) (λ known sized.
     let line = both (in_line (change_tokens place x y)) (place_known classes k place && (is_known k x && is_known k y)) known in
-    (does_writable sc (Stmt-F.Add place x y) (stmt.Add place x y) (stmt.rolls-Add place x y) (change_writable sc classes k c (codes "add") words.adds place x y line.1 sized), tt))
+    (does_written sc (Stmt-F.Add place x y) (stmt.Add place x y) (stmt.rolls-Add place x y) (written _ _ (change_writable sc classes k c (codes "add") words.adds place x y line.1 sized)), tt))
 stmt_case sc classes k c (Stmt-F.Wait e) = stmt_level sc classes k (Stmt-F.Wait e) (λ known sized.
     let line = both (in_line (1 + tokens_of e)) (is_known k e) known in
-    (does_writable sc (Stmt-F.Wait e) (stmt.Wait e) (stmt.rolls-Wait e) (words.wait, expr_writable sc classes k c e line.1 sized), tt))
+    (does_written sc (Stmt-F.Wait e) (stmt.Wait e) (stmt.rolls-Wait e) (written _ _ (words.wait, expr_writable sc classes k c e line.1 sized)), tt))
 
 stmt_said : (sc : Scope) (classes : List ClassRow) (k : Known) → Covers sc classes k → (s : Stmt) → IsSaid sc classes k s
 stmt_said sc classes k c = ind-Stmt (IsSaid sc classes k) (λ x y is. subst (λ (z : Stmt-F Stmt). IsSaid sc classes k (roll-Stmt z)) is (stmt_case sc classes k c y))
@@ -290,7 +298,7 @@ regs_said : (sc : Scope) (rows : List RegRow) → AreNames (reg_names rows) → 
 regs_said sc [] names sized = tt
 regs_said sc (row ∷ rows) names sized =
     let sizes = both (in_i64 row.start) (regs_sized rows) sized in
-    ((words.reg, (names.0, (fits_i64 row.start sizes.0, tt))), regs_said sc rows names.1 sizes.1)
+    (written _ _ (words.reg, (names.0, (fits_i64 row.start sizes.0, tt))), regs_said sc rows names.1 sizes.1)
 
 more_senses : (sc : Scope) (classes : List ClassRow) (k : Known) → Covers sc classes k → k.senses + 1 ≤ length sc.senses → Covers sc classes (record k { senses = k.senses + 1 })
 more_senses sc classes k c low = record {
@@ -310,7 +318,7 @@ senses_said sc classes k c (row ∷ rows) names few known sized =
     let knowns = both (in_line (sense_tokens row.sense) && sense_known classes k row.sense) (senses_fit classes (record k { senses = k.senses + 1 }) rows) known in
     let here = both (in_line (sense_tokens row.sense)) (sense_known classes k row.sense) knowns.0 in
     let sizes = both (sense_sized row.sense) (senses_sized rows) sized in (
-      sense_writable sc classes k c row.name names.0 row.sense here.1 sizes.0,
+      sense_written sc row.name row.sense (sense_writable sc classes k c row.name names.0 row.sense here.1 sizes.0),
       senses_said sc classes (record k { senses = k.senses + 1 }) (more_senses sc classes k c (omega (arith, few))) rows names.1 (omega (arith, few)) knowns.1 sizes.1,
     )
 
@@ -335,10 +343,9 @@ length-sense_names [] = refl
 length-sense_names (row ∷ rows) = let more = length-sense_names rows in omega (arith, more)
 
 -- what the lines of a program that fits say is writable
-pub program-writable : (t : Table) (p : Program) → IsNamed t → length t.vars ≡ var_count (class_rows t) → fits p (record { classes = class_rows t }) ≡ true → program_sized p ≡ true →
-    AllByRecursion (λ (s : Said). AreWritable (spell_said (program_scope t p) s)) (program_says p)
+pub program-written : (t : Table) (p : Program) → IsNamed t → length t.vars ≡ var_count (class_rows t) → fits p (record { classes = class_rows t }) ≡ true → program_sized p ≡ true → AreWritten t p
 unfolding fits tree_fits
-program-writable t p named count fit sized =
+program-written t p named count fit sized =
     let few = both (are_few p) (names_fit (reg_names p.regs ++ sense_names p.senses) && tree_fits p (record { classes = class_rows t })) fit in
     let tree = both (names_fit (reg_names p.regs ++ sense_names p.senses)) (tree_fits p (record { classes = class_rows t })) few.1 in
     let short = both (is_short p) (senses_fit (class_rows t) (known_before (class_rows t) p 0) p.senses && stmts_fit (class_rows t) (known_before (class_rows t) p (length p.senses)) p.body) tree.1 in

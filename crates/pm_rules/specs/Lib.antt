@@ -6,6 +6,6 @@ pub mod Reading
 pub mod Statements
 pub mod Rules
 pub mod Spelling
-pub mod Printing
 pub mod Grammar
+pub mod Printing
 pub mod Samples

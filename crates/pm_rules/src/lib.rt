@@ -17,4 +17,4 @@ mod token;
 pub use fault::RuleFault;
 pub use laws::some_texts;
 pub use printing::print_with;
-pub use printing_laws::printed_lines_are_read;
+pub use printing_laws::{printed_lines_are_read, printed_tokens_are_read};
