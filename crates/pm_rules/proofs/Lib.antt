@@ -7,4 +7,5 @@ pub mod PrintingTokens
 pub mod PrintingLines
 pub mod PrintingTrees
 pub mod PrintingRows
+pub mod PrintingRules
 pub mod PrintingWorked

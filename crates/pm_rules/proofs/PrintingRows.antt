@@ -1,5 +1,5 @@
 -- The rows of a printed text: a line for each that the program's lines say, numbered from 1.
-use Rattle.std.proofs.Common.{◌≡◌, refl, ap, sym, ◌∙◌, arith, ℕ, ◌+◌, ◌≤◌, ◌<◌, List, [], ◌∷◌, ◌++◌, length, map, Option, Some, None}
+use Rattle.std.proofs.Common.{◌≡◌, refl, ap, ◌∙◌, arith, ℕ, ◌+◌, ◌≤◌, ◌<◌, List, [], ◌∷◌, ◌++◌, length, map, Option, Some}
 use Rattle.std.specs.List.{AllByRecursion}
 use Rattle.pm_base.specs.declared.program.Program.{Program}
 use Rattle.pm_rules.specs.Grammar.{IsShort, Row, or_none, rows_from, with_row}

@@ -32,8 +32,8 @@ use Rattle.pm_base.specs.declared.program.Stmt.TheViews.{roll-Stmt}
 use Rattle.pm_base.specs.declared.program.Stmt.TheVariants as stmt
 use Rattle.pm_rules.specs.Printing.{AreNames, AreWritable, AreWritten, IsNamed, IsWritable, IsWritten, change_sized, in_i64, is_sized, place_sized, program_sized, regs_sized, sense_sized, senses_sized, sized_step, stmt_sized, stmt_sized_step, stmts_sized}
 use Rattle.pm_rules.specs.Reading.{Scope, Table, class_names, class_rows}
-use Rattle.pm_rules.specs.Spelling.{concat, else_said, field_word, name_in, op_token, program_says, program_scope, reg_said, says, says_all, says_step, sense_said, spell, spell_change, spell_does, spell_does_step, spell_place, spell_said, spell_sense, spell_step}
-use Rattle.pm_rules.specs.Tokens.{Tok, name, number, symbol}
+use Rattle.pm_rules.specs.Spelling.{concat, else_said, field_word, name_in, op_token, program_scope, reg_said, says, says_all, says_step, sense_said, spell, spell_change, spell_does, spell_does_step, spell_place, spell_said, spell_sense, spell_step}
+use Rattle.pm_rules.specs.Tokens.{Tok, symbol}
 use Rattle.pm_rules.specs.declared.token.Symbol.TheVariants as symbols
 use Rattle.pm_rules.specs.declared.said.Said.{Said}
 use Rattle.pm_rules.specs.declared.said.Said.TheVariants as said
