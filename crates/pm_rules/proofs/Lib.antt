@@ -6,6 +6,7 @@ pub mod PrintingDigits
 pub mod PrintingTokens
 pub mod PrintingLines
 pub mod PrintingTrees
+pub mod PrintingBodies
 pub mod PrintingRows
 pub mod PrintingRules
 pub mod PrintingWorked

@@ -47,8 +47,8 @@ pub rows-printed : (t : Table) (p : Program) → AreWritten t p →
     rows_from 1 (lines_of (printed t p)) ≡ Some (numbered 1 (map (spell_said (program_scope t p)) (program_says p)))
 rows-printed t p all =
     ap (λ (ls : List (List ℕ)). rows_from 1 ls)
-      (lines-printed t p (said_tokens (program_scope t p) (program_says p) all)
-      ∙ ap (λ (ls : List (List ℕ)). ls ++ ([] ∷ [])) (texts_twice (program_scope t p) (program_says p)))
+    (lines-printed t p (said_tokens (program_scope t p) (program_says p) all)
+    ∙ ap (λ (ls : List (List ℕ)). ls ++ ([] ∷ [])) (texts_twice (program_scope t p) (program_says p)))
     ∙ rows-lines 1 (map (spell_said (program_scope t p)) (program_says p)) (said_lines (program_scope t p) (program_says p) all)
 
 pub numbered-tokens : (n : ℕ) (lines : List (List Tok)) → map (λ (r : Row). r.tokens) (numbered n lines) ≡ lines

@@ -23,16 +23,10 @@ pub fn printed_tokens_are_read()
 /// Laws of the printed form of a program: all tokens of a program that fits can be written; the printed form is its
 /// lines' texts, with an empty line behind the last line feed; and its rows are the tokens of what its lines say.
 pub fn printed_lines_are_read()
-    ensures written {
-        (t : Table) (p : Tree) → IsNamed t → length t.vars ≡ var_count (class_rows t) →
-        fits p (record { classes = class_rows t }) ≡ true → program_sized p ≡ true → AreWritten t p
-    }
-    ensures lines {
-        (t : Table) (p : Tree) → AreWritten t p →
-        lines_of (printed t p) ≡ map (λ s. line_text (spell_said (program_scope t p) s)) (program_says p) ++ [] ∷ []
-    }
-    ensures rows {
-        (t : Table) (p : Tree) → AreWritten t p →
-        rows_from 1 (lines_of (printed t p)) ≡ Some (numbered 1 (map (spell_said (program_scope t p)) (program_says p)))
-    }
+    ensures written { (t : Table) (p : Tree) → IsNamed t → length t.vars ≡ var_count (class_rows t) →
+        fits p (record { classes = class_rows t }) ≡ true → program_sized p ≡ true → AreWritten t p }
+    ensures lines { (t : Table) (p : Tree) → AreWritten t p →
+        lines_of (printed t p) ≡ map (λ s. line_text (spell_said (program_scope t p) s)) (program_says p) ++ [] ∷ [] }
+    ensures rows { (t : Table) (p : Tree) → AreWritten t p →
+        rows_from 1 (lines_of (printed t p)) ≡ Some (numbered 1 (map (spell_said (program_scope t p)) (program_says p))) }
 {}

@@ -1,5 +1,5 @@
 use Rattle.pm_rules.proofs.PrintingRows.{lines-written, rows-printed}
-use Rattle.pm_rules.proofs.PrintingTrees.{program-written}
+use Rattle.pm_rules.proofs.PrintingBodies.{program-written}
 use Rattle.pm_rules.proofs.printing_laws.printed_lines_are_read.Goals as goal
 
 pub returns : goal.returns
