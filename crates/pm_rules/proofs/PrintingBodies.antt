@@ -61,7 +61,8 @@ words = record {
 written : (k : Tok) (ts : List Tok) → AreWritable (k ∷ ts) → IsWritten (k ∷ ts)
 written k ts all = record { tokens = all; some = omega arith }
 
-sense_written : (sc : Scope) (w : List ℕ) (s : Sense) → AreWritable (spell_sense sc w s) → IsWritten (spell_sense sc w s)
+sense_written : (sc : Scope) (w : List ℕ) (s : Sense) → AreWritable (spell_sense sc w s) →
+    IsWritten (spell_sense sc w s)
 sense_written sc w (sense.Read place) all = written _ _ all
 sense_written sc w (sense.Scan class x0 x1 y0 y1) all = written _ _ all
 
@@ -77,7 +78,8 @@ IsSaid sc classes k s = stmt_fits classes k s ≡ true → stmt_sized s ≡ true
 -- one level of a statement
 level : (sc : Scope) (classes : List ClassRow) (k : Known) (x : Stmt-F Stmt) →
     (stmt_fits_step classes k (map-Stmt Stmt Bool (stmt_fits classes k) x) ≡ true →
-    stmt_sized_step (map-Stmt Stmt Bool stmt_sized x) ≡ true → AreSaid sc (says_step (map-Stmt Stmt (List Said) says x))) →
+    stmt_sized_step (map-Stmt Stmt Bool stmt_sized x) ≡ true →
+    AreSaid sc (says_step (map-Stmt Stmt (List Said) says x))) →
     IsSaid sc classes k (roll-Stmt x)
 level sc classes k x f known sized = subst (AreSaid sc) (sym (fold-roll-Stmt (List Said) says_step x))
     (f (sym (fold-roll-Stmt Bool (stmt_fits_step classes k) x) ∙ known)
@@ -146,7 +148,8 @@ stmt_case {sc} {classes} {k} c (Stmt-F.Wait e) = level sc classes k (Stmt-F.Wait
     alone sc (Stmt-F.Wait e) (stmt.Wait e) (stmt.rolls-Wait e)
     (written _ _ (words.wait, expr_writable c e line.1 sized)))
 
-stmt_said : {sc : Scope} {classes : List ClassRow} {k : Known} → Covers sc classes k → (s : Stmt) → IsSaid sc classes k s
+stmt_said : {sc : Scope} {classes : List ClassRow} {k : Known} → Covers sc classes k → (s : Stmt) →
+    IsSaid sc classes k s
 stmt_said {sc} {classes} {k} c = ind-Stmt (IsSaid sc classes k)
     (λ x y is. subst (λ (z : Stmt-F Stmt). IsSaid sc classes k (roll-Stmt z)) is (stmt_case c y))
 
@@ -253,14 +256,16 @@ program-written t p named count fit sized =
     let sizes = both (regs_sized p.regs) (senses_sized p.senses && stmts_sized p.body) sized in
     let inner = both (senses_sized p.senses) (stmts_sized p.body) sizes.1 in
     split t p names.0 sizes.0
-    (senses_said _ _ _ (covered t p 0 named count names.0 names.1 (omega arith)) p.senses names.1 (all_there p) parts.0 inner.0)
+    (senses_said _ _ _ (covered t p 0 named count names.0 names.1 (omega arith)) p.senses names.1
+    (all_there p) parts.0 inner.0)
     (body_said (covered t p (length p.senses) named count names.0 names.1 (omega arith)) p.body parts.1 inner.1)
   where
     all_there : (p : Program) → 0 + length p.senses ≤ length (sense_names p.senses)
     all_there p = let there = length-sense_names p.senses in omega (arith, there)
 
     split : (t : Table) (p : Program) → AreNames (reg_names p.regs) → regs_sized p.regs ≡ true →
-        AreSaid (program_scope t p) (sense_said p.senses) → AreSaid (program_scope t p) (says_all p.body) → AreWritten t p
+        AreSaid (program_scope t p) (sense_said p.senses) → AreSaid (program_scope t p) (says_all p.body) →
+        AreWritten t p
     split t p names sized senses body =
         join (program_scope t p) (reg_said p.regs) (sense_said p.senses ++ says_all p.body)
         (regs_said (program_scope t p) p.regs names sized)

@@ -11,9 +11,11 @@ use Rattle.pm_rules.specs.Spelling.{printed, program_says, program_scope, spell_
 use Rattle.pm_rules.specs.Tokens.{Tok}
 use Rattle.pm_rules.proofs.PrintingRows.{numbered-short, numbered-tokens, rows-printed}
 
-pub rule-printed : (t : Table) (version : ℕ) (p : Program) → AreWritten t p → fits p (record { classes = class_rows t }) ≡ true → IsOfVersion version p →
+pub rule-printed : (t : Table) (version : ℕ) (p : Program) → AreWritten t p →
+    fits p (record { classes = class_rows t }) ≡ true → IsOfVersion version p →
     without_idle_else (program_says p) ≡ program_says p → length (program_says p) ≤ 200 →
-    AllByRecursion (λ (ts : List Tok). length ts ≤ 64) (map (spell_said (program_scope t p)) (program_says p)) → IsRule t version (printed t p) p
+    AllByRecursion (λ (ts : List Tok). length ts ≤ 64) (map (spell_said (program_scope t p)) (program_says p)) →
+    IsRule t version (printed t p) p
 rule-printed t version p written fit of_version canonical few short =
     let lines = map (spell_said (program_scope t p)) (program_says p) in
     let count = length-map (program_says p) (spell_said (program_scope t p)) in record {

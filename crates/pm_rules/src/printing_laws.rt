@@ -28,5 +28,6 @@ pub fn printed_lines_are_read()
     ensures lines { (t : Table) (p : Tree) → AreWritten t p →
         lines_of (printed t p) ≡ map (λ s. line_text (spell_said (program_scope t p) s)) (program_says p) ++ [] ∷ [] }
     ensures rows { (t : Table) (p : Tree) → AreWritten t p →
-        rows_from 1 (lines_of (printed t p)) ≡ Some (numbered 1 (map (spell_said (program_scope t p)) (program_says p))) }
+        rows_from 1 (lines_of (printed t p)) ≡
+        Some (numbered 1 (map (spell_said (program_scope t p)) (program_says p))) }
 {}
