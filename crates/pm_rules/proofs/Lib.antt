@@ -17,9 +17,11 @@ pub mod NamesLaws
 pub mod NestingLaws
 pub mod ParsingLaws
 pub mod PrintedLaws
+pub mod PrintingBodies
 pub mod PrintingDigits
 pub mod PrintingLines
 pub mod PrintingNames
+pub mod PrintingRows
 pub mod PrintingTokens
 pub mod PrintingTrees
 pub mod PrintingWorked

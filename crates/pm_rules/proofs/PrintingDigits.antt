@@ -55,14 +55,16 @@ no_digit [] e = refl
 no_digit (b ∷ t) e = rw (not_word_not_digit b e) refl
 
 -- a run of bytes of a name, and of digits, ends where none follows
-pub word_len-append : (w rest : List ℕ) → list_all is_word w ≡ true → is_word (slice_index rest 0) ≡ false → word_len (w ++ rest) ≡ length w
+pub word_len-append : (w rest : List ℕ) → list_all is_word w ≡ true → is_word (slice_index rest 0) ≡ false →
+    word_len (w ++ rest) ≡ length w
 word_len-append [] rest h e = no_word rest e
 word_len-append (b ∷ w) rest h e =
     let here : is_word b ≡ true = grind (arith, nat_tests) in
     let more : list_all is_word w ≡ true = grind (arith, nat_tests) in
     rw (here, word_len-append w rest more e) (omega arith)
 
-pub digits_len-append : (ds rest : List ℕ) → list_all is_digit ds ≡ true → is_word (slice_index rest 0) ≡ false → digits_len (ds ++ rest) ≡ length ds
+pub digits_len-append : (ds rest : List ℕ) → list_all is_digit ds ≡ true → is_word (slice_index rest 0) ≡ false →
+    digits_len (ds ++ rest) ≡ length ds
 digits_len-append [] rest h e = no_digit rest e
 digits_len-append (b ∷ ds) rest h e =
     let here : is_digit b ≡ true = grind (arith, nat_tests) in

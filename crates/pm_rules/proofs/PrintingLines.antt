@@ -45,7 +45,8 @@ name_ink w e = all_ink is_word word_ink w (grind (arith, nat_tests))
 
 number_ink : (z : ℤ) → FitsSigned w64 z → IsInk (signed_decimal z)
 number_ink (pos n) h = all_ink is_digit digit_ink (decimal n) (decimal_writes n (omega (arith, h))).digits
-number_ink (negsuc n) h = all_ink is_digit digit_ink (decimal (suc n)) (decimal_writes (suc n) (omega (arith, h))).digits
+number_ink (negsuc n) h =
+    all_ink is_digit digit_ink (decimal (suc n)) (decimal_writes (suc n) (omega (arith, h))).digits
 
 symbol_ink : (s : Symbol) → IsInk (symbol_text s)
 symbol_ink sym.Open = refl
@@ -79,7 +80,8 @@ gap_ink false = refl
 
 behind_ink : (a : Tok) (ts : List Tok) → AreWritable ts → IsInk (text_behind a ts)
 behind_ink a [] all = refl
-behind_ink a (b ∷ ts) all = both_ink (gap a b) (token_text b ++ text_behind b ts) (gap_ink (joins_right a || joins_left b))
+behind_ink a (b ∷ ts) all =
+    both_ink (gap a b) (token_text b ++ text_behind b ts) (gap_ink (joins_right a || joins_left b))
     (both_ink (token_text b) (text_behind b ts) (token_ink b all.0) (behind_ink b ts all.1))
 
 line_ink : (ts : List Tok) → AreWritable ts → IsInk (line_text ts)
@@ -130,10 +132,13 @@ unfolding lines_of
 lines-said sc [] all = refl
 lines-said sc (s ∷ ss) all =
     ap lines_of (append_assoc (line_text (spell_said sc s)) (codes "\n") (flat_map (said_text sc) ss))
-    ∙ (lines-append (line_text (spell_said sc s)) (flat_map (said_text sc) ss) (one_line-line_text (spell_said sc s) all.0)
+    ∙ (lines-append (line_text (spell_said sc s)) (flat_map (said_text sc) ss)
+    (one_line-line_text (spell_said sc s) all.0)
     ∙ ap (λ (ls : List (List ℕ)). line_text (spell_said sc s) ∷ ls) (lines-said sc ss all.1))
 
-pub lines-printed : (t : Table) (p : Program) → AllByRecursion (λ (s : Said). AreWritable (spell_said (program_scope t p) s)) (program_says p) →
-    lines_of (printed t p) ≡ map (λ (s : Said). line_text (spell_said (program_scope t p) s)) (program_says p) ++ ([] ∷ [])
+pub lines-printed : (t : Table) (p : Program) →
+    AllByRecursion (λ (s : Said). AreWritable (spell_said (program_scope t p) s)) (program_says p) →
+    lines_of (printed t p) ≡ map (λ (s : Said). line_text (spell_said (program_scope t p) s)) (program_says p) ++
+    ([] ∷ [])
 unfolding printed
 lines-printed t p all = lines-said (program_scope t p) (program_says p) all

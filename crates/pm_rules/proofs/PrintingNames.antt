@@ -5,7 +5,8 @@ use Rattle.pm_base.specs.declared.program.RegRow.{RegRow}
 use Rattle.pm_base.specs.declared.program.SenseRow.{SenseRow}
 use Rattle.pm_rules.specs.Spelling.{name_in}
 
-pub reg_name-at : (rows : List RegRow) (k : ℕ) (row : RegRow) → k < length rows → row ≡ get_or rows k row → name_in (reg_names rows) k ≡ row.name
+pub reg_name-at : (rows : List RegRow) (k : ℕ) (row : RegRow) → k < length rows → row ≡ get_or rows k row →
+    name_in (reg_names rows) k ≡ row.name
 reg_name-at [] k d h e = absurd (omega arith)
 reg_name-at (row ∷ rows) zero d h e = rw e refl
 reg_name-at (row ∷ rows) (suc k) d h e = reg_name-at rows k d (omega arith) e
@@ -15,7 +16,8 @@ reg_name-past [] k h = refl
 reg_name-past (row ∷ rows) zero h = absurd (omega arith)
 reg_name-past (row ∷ rows) (suc k) h = reg_name-past rows k (omega arith)
 
-pub sense_name-at : (rows : List SenseRow) (k : ℕ) (row : SenseRow) → k < length rows → row ≡ get_or rows k row → name_in (sense_names rows) k ≡ row.name
+pub sense_name-at : (rows : List SenseRow) (k : ℕ) (row : SenseRow) → k < length rows → row ≡ get_or rows k row →
+    name_in (sense_names rows) k ≡ row.name
 sense_name-at [] k d h e = absurd (omega arith)
 sense_name-at (row ∷ rows) zero d h e = rw e refl
 sense_name-at (row ∷ rows) (suc k) d h e = sense_name-at rows k d (omega arith) e

@@ -44,7 +44,8 @@ symbol_read sym.Differ rest e = record { token = refl; blank = refl; some = omeg
 symbol_read sym.Less rest e = record { token = rw (e refl).equal refl; blank = refl; some = omega arith }
 symbol_read sym.AtMost rest e = record { token = refl; blank = refl; some = omega arith }
 symbol_read sym.Plus rest e = record { token = refl; blank = refl; some = omega arith }
-symbol_read sym.Minus rest e = record { token = rw (not_word_not_digit _ (e refl).word) refl; blank = refl; some = omega arith }
+symbol_read sym.Minus rest e =
+    record { token = rw (not_word_not_digit _ (e refl).word) refl; blank = refl; some = omega arith }
 symbol_read sym.Star rest e = record { token = refl; blank = refl; some = omega arith }
 symbol_read sym.Slash rest e = record { token = refl; blank = refl; some = omega arith }
 symbol_read sym.Percent rest e = record { token = refl; blank = refl; some = omega arith }
@@ -55,7 +56,8 @@ lower_not_blank b e = grind (arith, nat_tests)
 digit_not_blank : (b : ℕ) → is_digit b ≡ true → is_blank b ≡ false
 digit_not_blank b e = grind (arith, nat_tests)
 
-word_read : (w rest : List ℕ) → list_all is_word w ≡ true → nat_le (length w) 32 ≡ true → is_word (slice_index rest 0) ≡ false →
+word_read : (w rest : List ℕ) → list_all is_word w ≡ true → nat_le (length w) 32 ≡ true →
+    is_word (slice_index rest 0) ≡ false →
     word (w ++ rest) ≡ Some (name w, length w)
 unfolding word
 word_read w rest all short e = rw (word_len-append w rest all e, short, take_at w rest (length w) refl) refl
@@ -67,7 +69,8 @@ name_read (b ∷ w) rest h e =
     let low : is_lower b ≡ true = grind (arith, nat_tests) in
     let all : list_all is_word (b ∷ w) ≡ true = grind (arith, nat_tests) in
     let short : nat_le (length (b ∷ w)) 32 ≡ true = grind (arith, nat_tests) in
-    record { token = rw low (word_read (b ∷ w) rest all short e.word); blank = lower_not_blank b low; some = omega arith }
+    let read = word_read (b ∷ w) rest all short e.word in
+    record { token = rw low read; blank = lower_not_blank b low; some = omega arith }
 
 positive_read : (n : ℕ) (ds rest : List ℕ) → Writes n ds → n ≤ 2 ^ 63 - 1 → is_word (slice_index rest 0) ≡ false →
     positive (ds ++ rest) ≡ Some (number (pos n), length ds)
@@ -83,7 +86,8 @@ first_digit : (d : ℕ) (ds : List ℕ) → list_all is_digit (d ∷ ds) ≡ tru
 first_digit d ds h = grind (arith, nat_tests)
 
 pos_read : (n : ℕ) (ds rest : List ℕ) → Writes n ds → n ≤ 2 ^ 63 - 1 → is_word (slice_index rest 0) ≡ false →
-    (token (ds ++ rest) ≡ Some (number (pos n), length ds)) × ((is_blank (slice_index (ds ++ rest) 0) ≡ false) × (1 ≤ length ds))
+    (token (ds ++ rest) ≡ Some (number (pos n), length ds)) ×
+    ((is_blank (slice_index (ds ++ rest) 0) ≡ false) × (1 ≤ length ds))
 unfolding token
 pos_read n [] rest w h e = absurd (omega (arith, w.some))
 pos_read n (d ∷ ds) rest w h e =
@@ -116,16 +120,20 @@ token_read (number z) rest p e = number_read z rest p (e refl)
 token_read (symbol s) rest p e = symbol_read s rest e
 
 -- one token less
-lexed_one : (k : Tok) (text rest : List ℕ) → token (text ++ rest) ≡ Some (k, length text) → is_blank (slice_index (text ++ rest) 0) ≡ false → 1 ≤ length text →
+lexed_one : (k : Tok) (text rest : List ℕ) → token (text ++ rest) ≡ Some (k, length text) →
+    is_blank (slice_index (text ++ rest) 0) ≡ false → 1 ≤ length text →
     lex_from 0 (text ++ rest) ≡ option_map (λ (ts : List Tok). k ∷ ts) (lex_from 0 rest)
 lexed_one k [] rest e b some = absurd (omega arith)
 lexed_one k (c ∷ t) rest e b some =
     let less : length (c ∷ t) - 1 ≡ length t = omega arith in
-    rw (b, e, less) (ap (λ (m : Option (List Tok)). option_map (λ (ts : List Tok). k ∷ ts) m) (lex_from-drop (length t) (t ++ rest)
+    rw (b, e, less) (ap (λ (m : Option (List Tok)). option_map (λ (ts : List Tok). k ∷ ts) m)
+    (lex_from-drop (length t) (t ++ rest)
     ∙ ap (λ (r : List ℕ). lex_from 0 r) (drop_at t rest (length t) refl)))
 
-lexed_token : (k : Tok) (rest : List ℕ) → IsWritable k → Stops k rest → lex_from 0 (token_text k ++ rest) ≡ option_map (λ (ts : List Tok). k ∷ ts) (lex_from 0 rest)
-lexed_token k rest p e = let read = token_read k rest p e in lexed_one k (token_text k) rest read.token read.blank read.some
+lexed_token : (k : Tok) (rest : List ℕ) → IsWritable k → Stops k rest →
+    lex_from 0 (token_text k ++ rest) ≡ option_map (λ (ts : List Tok). k ∷ ts) (lex_from 0 rest)
+lexed_token k rest p e =
+    let read = token_read k rest p e in lexed_one k (token_text k) rest read.token read.blank read.some
 
 gap_at : (joins : Bool) (t : List ℕ) → lex_from 0 ((if joins then [] else codes " ") ++ t) ≡ lex_from 0 t
 gap_at true t = refl

@@ -25,20 +25,29 @@ spell-Num sc z = search (rules, the_lemmas)
 spell-Reg : (sc : Scope) (r : ℕ) → spell sc (Reg r) ≡ name (name_in sc.regs r) ∷ []
 spell-Reg sc r = search (rules, the_lemmas)
 
-spell-Part : (sc : Scope) (k : ℕ) (f : Field) → spell sc (Part k f) ≡ name (name_in sc.senses k) ∷ symbol symbols.Dot ∷ name (field_word f) ∷ []
+spell-Part : (sc : Scope) (k : ℕ) (f : Field) →
+    spell sc (Part k f) ≡ name (name_in sc.senses k) ∷ symbol symbols.Dot ∷ name (field_word f) ∷ []
 spell-Part sc k f = search (rules, the_lemmas)
 
-spell-Bin : (sc : Scope) (o : Op) (a b : Expr) → spell sc (Bin o a b) ≡ symbol symbols.Open ∷ (spell sc a ++ (op_token o ∷ (spell sc b ++ symbol symbols.Close ∷ [])))
+spell-Bin : (sc : Scope) (o : Op) (a b : Expr) →
+    spell sc (Bin o a b) ≡
+    symbol symbols.Open ∷ (spell sc a ++ (op_token o ∷ (spell sc b ++ symbol symbols.Close ∷ [])))
 spell-Bin sc o a b = search (rules, the_lemmas)
 
 says-Set : (place : Place) (x y : Expr) → says (stmt.Set place x y) ≡ said.Does (stmt.Set place x y) ∷ []
-says-Set place x y = ap says (sym (stmt.rolls-Set place x y)) ∙ fold-roll-Stmt (List Said) says_step (Stmt-F.Set place x y)
+says-Set place x y =
+    ap says (sym (stmt.rolls-Set place x y)) ∙ fold-roll-Stmt (List Said) says_step (Stmt-F.Set place x y)
 
-says-If : (test : Expr) (first second : List Stmt) → says (stmt.If test first second) ≡ said.If test ∷ (concat (map says first) ++ (else_said (map says second) ++ said.End ∷ []))
-says-If test first second = ap says (sym (stmt.rolls-If test first second)) ∙ fold-roll-Stmt (List Said) says_step (Stmt-F.If test first second)
+says-If : (test : Expr) (first second : List Stmt) →
+    says (stmt.If test first second) ≡
+    said.If test ∷ (concat (map says first) ++ (else_said (map says second) ++ said.End ∷ []))
+says-If test first second =
+    ap says (sym (stmt.rolls-If test first second)) ∙ fold-roll-Stmt (List Said) says_step (Stmt-F.If test first second)
 
-spell_does-Set : (sc : Scope) (place : Place) (x y : Expr) → spell_does sc (stmt.Set place x y) ≡ spell_change sc (codes "set") place x y
-spell_does-Set sc place x y = ap (spell_does sc) (sym (stmt.rolls-Set place x y)) ∙ fold-roll-Stmt (List Tok) (spell_does_step sc) (Stmt-F.Set place x y)
+spell_does-Set : (sc : Scope) (place : Place) (x y : Expr) →
+    spell_does sc (stmt.Set place x y) ≡ spell_change sc (codes "set") place x y
+spell_does-Set sc place x y = ap (spell_does sc) (sym (stmt.rolls-Set place x y))
+    ∙ fold-roll-Stmt (List Tok) (spell_does_step sc) (Stmt-F.Set place x y)
 
 pub worked-printed : printed worked_table worked_program ≡ worked_printed
 unfolding printed digits

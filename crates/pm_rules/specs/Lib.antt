@@ -8,8 +8,8 @@ pub mod Statements
 pub mod Rules
 pub mod Scopes
 pub mod Spelling
-pub mod Printing
 pub mod Grammar
 pub mod Nesting
 pub mod Sayable
+pub mod Printing
 pub mod Samples

@@ -1,5 +1,5 @@
 -- Which tokens a printed text may have: the names are names, and the numbers have 64 bits.
-use Rattle.std.specs.Prelude.{◌≡◌, ℕ, ◌^◌, nat_lt, ◌&&◌, Bool, true, ℤ, pos, negsuc, List, [], ◌∷◌, codes, map, FitsSigned}
+use Rattle.std.specs.Prelude.{◌≡◌, ℕ, ◌+◌, ◌<◌, ◌^◌, nat_lt, ◌&&◌, Bool, true, ℤ, pos, negsuc, List, [], ◌∷◌, codes, length, map, FitsSigned}
 use Rattle.std.specs.Int.{w64}
 use Rattle.std.specs.List.{AllByRecursion}
 use Rattle.pm_base.specs.Fits.{all_true, reg_names, sense_names}
@@ -17,7 +17,9 @@ use Rattle.pm_base.specs.declared.program.SenseRow.{SenseRow}
 use Rattle.pm_base.specs.declared.program.Stmt.{Stmt}
 use Rattle.pm_base.specs.declared.program.Stmt.TheFolds.{fold-Stmt}
 use Rattle.pm_base.specs.declared.program.Stmt.TheOpen.{Stmt-F}
+use Rattle.pm_rules.specs.Grammar.{Row}
 use Rattle.pm_rules.specs.Reading.{Scope, Table, class_names}
+use Rattle.pm_rules.specs.Spelling.{program_says, program_scope, spell_said}
 use Rattle.pm_rules.specs.Tokens.{Tok, name, number, symbol}
 use Rattle.pm_rules.specs.declared.printing.Piece.{Piece}
 use Rattle.pm_rules.specs.declared.printing.Piece.TheVariants as piece
@@ -31,6 +33,15 @@ IsWritable (symbol s) = Unit {0}
 
 abbrev pub AreWritable : List Tok → Type 0
 AreWritable ts = AllByRecursion IsWritable ts
+
+-- the tokens of a line that isn't empty
+pub record IsWritten (ts : List Tok) : Type 0 where
+  pub tokens : AreWritable ts
+  pub some : 0 < length ts
+
+-- each line of a program has tokens, and all of them are writable
+abbrev pub AreWritten : Table → Program → Type 0
+AreWritten t p = AllByRecursion (λ s. IsWritten (spell_said (program_scope t p) s)) (program_says p)
 
 -- tokens that are to be written, without the names that they borrow
 abbrev pub piece_tok : Piece → Tok
@@ -47,6 +58,11 @@ scope_of w = record {
   regs = reg_names w.regs.now;
   senses = sense_names w.senses.now;
 }
+
+-- lines of these tokens, numbered from n on
+abbrev pub numbered : ℕ → List (List Tok) → List Row
+numbered n [] = []
+numbered n (ts ∷ lines) = record { number = n; tokens = ts } ∷ numbered (n + 1) lines
 
 -- an `else` before a list that isn't empty
 abbrev pub else_text : List Stmt → List ℕ

@@ -123,7 +123,8 @@ fn add_behind<'a, 'b>(
     first: &'b Piece<'a>,
     rest: &'b [Piece<'a>],
 ) -> Result<(), Memory>
-    ensures { OnOk result (string_bytes out.new ≡ string_bytes out.old ++ text_behind (piece_tok first.now) (pieces rest.now)) }
+    ensures { OnOk result (string_bytes out.new ≡
+        string_bytes out.old ++ text_behind (piece_tok first.now) (pieces rest.now)) }
 {
     let mut before = first;
     for piece in rest {
@@ -245,7 +246,8 @@ fn var_name<'a>(words: &Words<'a>, var: u32) -> &'a str
 }
 
 fn push_part<'a>(line: &mut Vec<Piece<'a>>, sense: &'a str, field: Field) -> Result<(), Memory>
-    ensures { OnOk result (pieces line.new.items ≡ pieces line.old.items ++ name sense.now ∷ symbol sym.Dot ∷ name (field_word field) ∷ []) }
+    ensures { OnOk result (pieces line.new.items ≡
+        pieces line.old.items ++ name sense.now ∷ symbol sym.Dot ∷ name (field_word field) ∷ []) }
 {
     push_name(line, sense)?;
     push_symbol(line, Symbol::Dot)?;
@@ -274,7 +276,8 @@ fn push_expr<'a>(line: &mut Vec<Piece<'a>>, words: &Words<'a>, e: &Expr) -> Resu
 }
 
 fn push_place<'a>(line: &mut Vec<Piece<'a>>, words: &Words<'a>, place: &Place) -> Result<(), Memory>
-    ensures tokens { OnOk result (pieces line.new.items ≡ pieces line.old.items ++ spell_place (scope_of words.now) place.now) }
+    ensures tokens { OnOk result (pieces line.new.items ≡
+        pieces line.old.items ++ spell_place (scope_of words.now) place.now) }
     ensures sized { OnOk result (place_sized place.now ≡ true) }
 {
     match place {
@@ -302,7 +305,8 @@ fn push_two<'a>(
     a: &Expr,
     b: &Expr,
 ) -> Result<(), Memory>
-    ensures tokens { OnOk result (pieces line.new.items ≡ pieces line.old.items ++ (spell (scope_of words.now) a.now ++ spell (scope_of words.now) b.now)) }
+    ensures tokens { OnOk result (pieces line.new.items ≡
+        pieces line.old.items ++ (spell (scope_of words.now) a.now ++ spell (scope_of words.now) b.now)) }
     ensures sized { OnOk result ((is_sized a.now && is_sized b.now) ≡ true) }
 {
     push_expr(line, words, a)?;
@@ -359,7 +363,8 @@ fn change_line<'a>(
     x: &Expr,
     y: &Expr,
 ) -> Result<(), Memory>
-    ensures tokens { OnOk result (pieces line.new.items ≡ spell_change (scope_of words.now) word.now place.now x.now y.now) }
+    ensures tokens { OnOk result (pieces line.new.items ≡
+        spell_change (scope_of words.now) word.now place.now x.now y.now) }
     ensures sized { OnOk result (change_sized place.now x.now y.now ≡ true) }
 {
     begin(line, word)?;
@@ -377,7 +382,8 @@ fn let_line<'a>(
     value: &Expr,
 ) -> Result<(), Memory>
     ensures tokens { OnOk result (pieces line.new.items ≡
-        name (codes "let") ∷ name (name_in (scope_of words.now).regs reg) ∷ symbol sym.Assign ∷ spell (scope_of words.now) value.now) }
+        name (codes "let") ∷ name (name_in (scope_of words.now).regs reg) ∷ symbol sym.Assign ∷
+        spell (scope_of words.now) value.now) }
     ensures sized { OnOk result (is_sized value.now ≡ true) }
 {
     begin(line, "let")?;
@@ -417,7 +423,8 @@ struct Page<'a> {
 
 /// Ends the line.
 fn end_line<'a>(page: &mut Page<'a>) -> Result<(), Memory>
-    ensures { OnOk result (string_bytes page.new.text ≡ string_bytes page.old.text ++ (line_text (pieces page.old.line.items) ++ codes "\n")) }
+    ensures { OnOk result (string_bytes page.new.text ≡
+        string_bytes page.old.text ++ (line_text (pieces page.old.line.items) ++ codes "\n")) }
 {
     add_line(&mut page.text, page.line.as_slice())?;
     add(&mut page.text, "\n")
@@ -532,7 +539,8 @@ fn print_with(
     classes: &[(Name, ClassRow)],
     vars: &[Name],
 ) -> Result<String, Memory>
-    ensures text { IfOk result (λ s. string_bytes s ≡ printed (record { classes = classes.now; vars = vars.now }) program.now) }
+    ensures text { IfOk result (λ s. string_bytes s ≡
+        printed (record { classes = classes.now; vars = vars.now }) program.now) }
     ensures sized { IfOk result (λ _. program_sized program.now ≡ true) }
 {
     let words = Words {

@@ -7,6 +7,7 @@ use Rattle.pm_rules.proofs.printing.print_regs.Given as goal
 abbrev pub invariant-loop-row : goal.invariant-loop-row
 invariant-loop-row l = record {
   text : string_bytes l.initial.page.text ++ flat_map (said_text (scope_of l.words)) (reg_said l.words.regs.now) ≡
-      string_bytes l.page.text ++ flat_map (said_text (scope_of l.words)) (reg_said (drop l.row-index l.words.regs.now));
+      string_bytes l.page.text ++
+      flat_map (said_text (scope_of l.words)) (reg_said (drop l.row-index l.words.regs.now));
   sized : regs_sized l.words.regs.now ≡ regs_sized (drop l.row-index l.words.regs.now);
 }
