@@ -1,5 +1,5 @@
 -- What is left over after a change.
-use Rattle.std.proofs.Common.{◌≡◌, refl, arith, ◌<◌, List, [], ◌∷◌, length, Option, Some, None}
+use Rattle.std.proofs.Common.{◌≡◌, refl, arith, ◌<◌, List, [], ◌∷◌, length, Some, None}
 use Rattle.pm_base.specs.declared.program.Expr.{Expr}
 use Rattle.pm_base.specs.declared.program.Place.{Place}
 use Rattle.pm_rules.specs.Reading.{Found, Scope, after, expr, is_assign, is_comma, place}

@@ -93,7 +93,7 @@ impl<'a> Model for Names<'a> {
 }
 
 impl<'a> Names<'a> {
-    /// The names of these classes and variables.
+    /// The names of these classes and variables, of which there are fewer than 2^32 each.
     pub fn make(
         alloc: Global,
         classes: &'a List<(Name, ClassRow)>,

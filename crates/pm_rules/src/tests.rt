@@ -1,5 +1,5 @@
 use crate::{Names, RuleFault, parse};
-use pm_base::{ClassRow, Expr, Field, List, Memory, Name, Op, Place, Program, Sense, Stmt};
+use pm_base::{ClassRow, Expr, Field, List, Name, Op, Place, Program, Sense, Stmt};
 use std::alloc::{AllocError, Global};
 use std::test::Fail;
 
@@ -10,9 +10,12 @@ fn read(alloc: Global, text: &str, version: u32) -> Result<Program, RuleFault> {
     classes.push((Name::make(alloc, "c")?, ClassRow { first: 0, count: 2 }))?;
     classes.push((Name::make(alloc, "none")?, ClassRow { first: 2, count: 0 }))?;
     let mut vars = List::new(alloc);
-    for name in ["c0", "c1", "twice", "twice", "now", "min"] {
-        vars.push(Name::make(alloc, name)?)?;
-    }
+    vars.push(Name::make(alloc, "c0")?)?;
+    vars.push(Name::make(alloc, "c1")?)?;
+    vars.push(Name::make(alloc, "twice")?)?;
+    vars.push(Name::make(alloc, "twice")?)?;
+    vars.push(Name::make(alloc, "now")?)?;
+    vars.push(Name::make(alloc, "min")?)?;
     let names = Names::make(alloc, &classes, &vars)?;
     parse(alloc, text, &names, version)
 }

@@ -1,4 +1,4 @@
-use Rattle.std.proofs.Common.{◌≡◌, refl, sym, false, ℕ, List, Option, Some, None, Bool, true}
+use Rattle.std.proofs.Common.{◌≡◌, refl, sym, false, ℕ, List, Some, None, Bool, true}
 use Rattle.std.specs.Prelude.{if◌then◌else◌}
 use Rattle.pm_base.specs.Names.{is_name}
 use Rattle.pm_rules.proofs.ReservedLaws.{strange_free}
