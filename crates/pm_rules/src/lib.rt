@@ -29,9 +29,7 @@ pub use laws::some_texts;
 pub use names::Names;
 pub use parsing::parse;
 pub use printing::print;
-pub use printing_laws::{
-    printed_lines_are_read, printed_rules_read_back, printed_tokens_are_read,
-};
+pub use printing_laws::{printed_lines_are_read, printed_rules_read_back, printed_tokens_are_read};
 pub use spelling_laws::{
     read_was_spelled, spelled_in_a_larger_scope, spelled_is_read, spelled_tokens_are_counted,
 };
