@@ -1,5 +1,5 @@
 -- What is known of a valid plan.
-use Rattle.std.proofs.Common.{◌≡◌, ℕ, ◌+◌, ◌<◌, ◌≤◌, refl, arith, ap, sym, ◌∙◌, subst, List, length, length-append, get_or, map, false, Bool, true, Option, Some, None, Ok}
+use Rattle.std.proofs.Common.{◌≡◌, ℕ, zero, suc, ◌+◌, ◌<◌, ◌≤◌, refl, arith, ap, sym, ◌∙◌, subst, List, length, length-append, get_or, map, false, Bool, true, Option, Some, None, Ok}
 use Rattle.std.specs.Prelude.{option_map, nat_le, [], ◌∷◌, ◌^◌, ◌&&◌, ◌||◌}
 use Rattle.std.specs.List.{list_all, list_any}
 use Rattle.std.proofs.lemmas.List.{length-map}
@@ -147,6 +147,25 @@ numbered_layout parts vars classes = record {
 -- the horizon of a valid plan is no later than a plan may name
 pub valid_horizon : (plan : Plan) → IsValid plan → plan.horizon ≤ 1000000000000
 valid_horizon plan valid = not_late plan.horizon (list_any starts_late plan.agents) (fault.Limit kind.Time) (valid_passed plan valid).time
+
+not_the_second : (one other : Bool) (f : PlanFault) → refused_if (one || other) f ≡ None → refused_if other f ≡ None
+not_the_second true other f e = absurd (cc)
+not_the_second false other f e = e
+
+none_late : (agents : List AgentRow) (f : PlanFault) → refused_if (list_any starts_late agents) f ≡ None
+    → (i : ℕ) → i < length agents → get_or (map (λ a. a.start) agents) i 0 ≤ 1000000000000
+none_late [] f e i lt = absurd (omega (arith, lt))
+none_late (a ∷ rest) f e zero lt = not_late a.start (list_any starts_late rest) f e
+none_late (a ∷ rest) f e (suc i) lt =
+    none_late rest f (not_the_second (starts_late a) (list_any starts_late rest) f e) i (omega (arith, lt))
+
+-- no agent of a valid plan starts later than a plan may name
+pub valid_start : (plan : Plan) → IsValid plan → (i : ℕ) → i < length plan.agents
+    → get_or (map (λ a. a.start) plan.agents) i 0 ≤ 1000000000000
+valid_start plan valid =
+    let late = fault.Limit kind.Time in
+    let late_start = list_any starts_late plan.agents in
+    none_late plan.agents late (not_the_second (is_past plan.horizon) late_start late (valid_passed plan valid).time)
 
 row_count : (parts : PlanParts) → length (numbered parts).layout.classes ≡ length parts.classes
 unfolding numbered

@@ -90,6 +90,13 @@ pub fn limits_are_kept(plan: &Plan)
     ensures classes { length plan.now.classes ≤ 64 }
 {}
 
+/// Each agent's first step is no later than a plan may name.
+pub fn valid_times(plan: &Plan)
+    requires { IsValid plan.now }
+    ensures { (i : ℕ) → i < length plan.now.agents →
+        slice_index (map (λ a. a.start) plan.now.agents) i ≤ 1000000000000 }
+{}
+
 /// Each agent's rule fits the plan's classes.
 pub fn rules_fit_the_layout(plan: &Plan)
     requires { IsValid plan.now }

@@ -17,6 +17,7 @@ type Agents<'a> = &'a [(&'a str, &'a str, u64)];
 
 /// Parts in short: the horizon; processes with their parents, where the empty text stands for no parent; classes with
 /// their variables, and each variable's process; agents with their homes and starts. The name `?` is given beside it.
+#[derive(Drop)]
 struct Sketch<'a>(u64, Pairs<'a>, Classes<'a>, Agents<'a>);
 
 const LAST: u64 = 1_000_000_000_000;
@@ -139,6 +140,8 @@ const REPEATS: Refusals = &[
         &[
             Sketch(9, ONE, &[BARE, BARE], &[]),
             Sketch(9, ONE, &[("c", &[("v", "a")]), ("c", &[("v", "a")])], &[]),
+            Sketch(9, ONE, &[("c", &[("v", "a"); 2]), ("c", &[])], &[]),
+            Sketch(9, ONE, &[BARE; 64], &[]),
         ],
     ),
     (
@@ -171,6 +174,42 @@ const REPEATS: Refusals = &[
             Sketch(9, &[("a", "b")], &[], &[("g", "a", 0); 2]),
         ],
     ),
+    (
+        Some(PlanFault::Twice {
+            kind: Kind::Agent,
+            index: 2,
+        }),
+        &[Sketch(
+            9,
+            ONE,
+            &[("c", &[("v", "a")])],
+            &[("g", "a", 0), ("h", "a", 0), ("g", "a", 0)],
+        )],
+    ),
+];
+
+/// How many variables there are and how many agents, all of a kind with one name, and what refuses them.
+const CROWDS: &[(usize, usize, PlanFault)] = &[
+    (
+        4096,
+        0,
+        PlanFault::Twice {
+            kind: Kind::Var,
+            index: 1,
+        },
+    ),
+    (4097, 0, PlanFault::Limit { kind: Kind::Var }),
+    (
+        0,
+        1024,
+        PlanFault::Twice {
+            kind: Kind::Agent,
+            index: 1,
+        },
+    ),
+    (0, 1025, PlanFault::Limit { kind: Kind::Agent }),
+    (4096, 1025, PlanFault::Limit { kind: Kind::Agent }),
+    (4097, 1025, PlanFault::Limit { kind: Kind::Var }),
 ];
 
 const TREES_AND_PLACES: Refusals = &[
@@ -331,6 +370,14 @@ fn refusal(alloc: Global, given: &str, sketch: &Sketch) -> Result<Option<PlanFau
     Ok(Plan::make(alloc, parts).err())
 }
 
+/// Why there is no plan of that many variables and agents, all of a kind with one name.
+fn crowd(alloc: Global, vars: usize, agents: usize) -> Result<Option<PlanFault>, Memory> {
+    let vars = vec![in alloc; ("v", "a"); vars]?;
+    let agents = vec![in alloc; ("g", "a", 0); agents]?;
+    let classes = [("c", vars.as_slice())];
+    refusal(alloc, "", &Sketch(9, ONE, &classes, agents.as_slice()))
+}
+
 /// Whether each of the sketches gives that answer.
 fn all_give(
     alloc: Global,
@@ -359,6 +406,12 @@ fn are_right(alloc: Global, given: &str, rows: Refusals) -> Result<bool, Memory>
 #[test]
 fn limits_are_refused_first(rt: HostRuntime) -> Result<(), Fail> {
     assert!(rt; are_right(rt.alloc(), "", LIMITS)?);
+    for (vars, agents, want) in CROWDS {
+        assert!(rt;
+            crowd(rt.alloc(), *vars, *agents)? == Some(*want),
+            "{vars} {agents}"
+        );
+    }
     Ok(())
 }
 

@@ -1,5 +1,7 @@
 -- What a reader of rules answers.
-use Rattle.std.specs.Prelude.{◌≡◌, Option, Some, None, Result, Ok, Err, option_and_then}
+use Rattle.std.specs.Prelude.{◌≡◌, ◌≢◌, Option, Some, None, Result, Ok, Err, option_and_then}
+use Rattle.pm_rules.specs.declared.fault.RuleFault.{RuleFault}
+use Rattle.pm_rules.specs.declared.fault.RuleFault.TheVariants as fault
 use Rattle.pm_rules.specs.declared.stop.Stop.{Stop}
 use Rattle.pm_rules.specs.declared.stop.Stop.TheVariants as stop
 
@@ -15,3 +17,8 @@ Stops stop.Word read = read ≡ None
 abbrev pub Gives : {X Y : Type 0} → (X → Y) → Result X Stop → Option Y → Type 0
 Gives view (Ok x) read = read ≡ Some (view x)
 Gives view (Err e) read = Stops e read
+
+-- What a function returned is what the lines give, or their fault, unless memory ran out.
+abbrev pub Reads : {X : Type 0} → Result X RuleFault → Result X RuleFault → Type 0
+Reads (Ok x) read = read ≡ Ok x
+Reads (Err e) read = e ≢ fault.Memory → read ≡ Err e

@@ -1,5 +1,5 @@
 -- The texts of the grammar: what must stand on their lines for a program.
-use Rattle.std.specs.Prelude.{◌≡◌, ◌&&◌, ℕ, ◌+◌, ◌≤◌, ◌<◌, Bool, true, false, List, [], ◌∷◌, length, map, get_or, Option, Some, None, option_map}
+use Rattle.std.specs.Prelude.{◌++◌, ◌⊎◌, Ok, Err, ◌≡◌, ◌&&◌, ℕ, ◌+◌, ◌≤◌, ◌<◌, Bool, true, false, List, [], ◌∷◌, length, map, get_or, Option, Some, None, option_map}
 use Rattle.std.specs.List.{AllByRecursion}
 use Rattle.pm_base.specs.Fits.{all_true, fits}
 use Rattle.pm_base.specs.Layouts.{var_count}
@@ -10,8 +10,12 @@ use Rattle.pm_base.specs.declared.program.Stmt.TheOpen.{Stmt-F}
 use Rattle.pm_rules.specs.Lexing.{lex}
 use Rattle.pm_rules.specs.Lines.{lines_of, code}
 use Rattle.pm_rules.specs.Reading.{Table, class_names, class_rows, number_of}
+use Rattle.pm_rules.specs.Rules.{after_line, after_lines, empty, is_empty}
 use Rattle.pm_rules.specs.Spelling.{program_says, program_scope, spell_said}
 use Rattle.pm_rules.specs.Tokens.{Tok}
+use Rattle.pm_rules.specs.declared.draft.Draft.{Draft}
+use Rattle.pm_rules.specs.declared.fault.RuleFault.{RuleFault}
+use Rattle.pm_rules.specs.declared.fault.RuleFault.TheVariants as fault
 use Rattle.pm_rules.specs.declared.said.Said.{Said}
 use Rattle.pm_rules.specs.declared.said.Said.TheVariants as said
 
@@ -100,3 +104,24 @@ pub record IsTable (t : Table) : Type 0 where
   pub classes : AreDistinct (class_names t)
   pub vars : AreDistinct t.vars
   pub count : length t.vars ≡ var_count (class_rows t)
+
+-- a line has that fault, and all lines before it pass
+pub record IsLineFault (t : Table) (version : ℕ) (text : List ℕ) (f : RuleFault) : Type 0 where
+  pub before : List (List ℕ)
+  pub line : List ℕ
+  pub more : List (List ℕ)
+  pub draft : Draft
+  pub lines : lines_of text ≡ before ++ line ∷ more
+  pub passed : after_lines t version 1 before empty ≡ Ok draft
+  pub faulty : after_line t version (length before + 1) line draft ≡ Err f
+
+-- all lines pass, and an `if` is still open at the end, which is the line behind the last one
+pub record IsEndFault (t : Table) (version : ℕ) (text : List ℕ) (f : RuleFault) : Type 0 where
+  pub draft : Draft
+  pub passed : after_lines t version 1 (lines_of text) empty ≡ Ok draft
+  pub unclosed : is_empty draft.frames ≡ false
+  pub is : f ≡ fault.Nesting (length (lines_of text) + 1)
+
+-- the fault of the first faulty line
+abbrev pub IsFirstFault : Table → ℕ → List ℕ → RuleFault → Type 0
+IsFirstFault t version text f = IsLineFault t version text f ⊎ IsEndFault t version text f

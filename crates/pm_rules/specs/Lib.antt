@@ -1,10 +1,15 @@
 pub mod Answers
+pub mod Directories
 pub mod Tokens
 pub mod Lexing
 pub mod Lines
 pub mod Reading
 pub mod Statements
 pub mod Rules
+pub mod Scopes
 pub mod Spelling
+pub mod Printing
 pub mod Grammar
+pub mod Nesting
+pub mod Sayable
 pub mod Samples

@@ -88,11 +88,11 @@ first_of (c ∷ cs) = if c.0 then Some c.1 else first_of cs
 -- the faults of a statement of line n, in order
 unfoldable pub fault_of : ℕ → Draft → Read → Option RuleFault
 fault_of n d r = first_of (
-  (is_out_of_order d r.0, fault.Order n) ∷
-  (is_unmatched d r.0, fault.Nesting n) ∷
-  (is_one_too_many d r.0, fault.TooLong n) ∷
-  (is_twice d r.0, fault.Twice n) ∷
-  (not r.1, fault.Unknown n) ∷ [])
+    (is_out_of_order d r.0, fault.Order n) ∷
+    (is_unmatched d r.0, fault.Nesting n) ∷
+    (is_one_too_many d r.0, fault.TooLong n) ∷
+    (is_twice d r.0, fault.Twice n) ∷
+    (not r.1, fault.Unknown n) ∷ [])
 
 -- `if` opens a list; the one outside it is gone on with after its `end`
 abbrev pub opened : Expr → Draft → Draft

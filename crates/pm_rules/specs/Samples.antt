@@ -20,7 +20,7 @@ worked_program = record {
   regs = record { name = codes "n"; start = pos 0 } ∷ [];
   senses = record { name = codes "a"; sense = sense.Read (Var 0) } ∷ [];
   body = stmt.If (Bin op.Less (Part 0 field.X) (Num (pos 1)))
-  (stmt.Set (Var 0) (Bin op.Sub (Reg 0) (Num (pos 1))) (Num (negsuc 1)) ∷ []) [] ∷ [];
+      (stmt.Set (Var 0) (Bin op.Sub (Reg 0) (Num (pos 1))) (Num (negsuc 1)) ∷ []) [] ∷ [];
 }
 
 abbrev pub worked_printed : List ℕ
