@@ -164,9 +164,9 @@ root_size prefix root d e =
     let (f0, v, before0, version_there, made0) = step_ok (made_by draft) version prefix root f1 before1 in
     let start = same_ok draft f0 before0 in
     let whole : draft v horizon move_after clps classes agents ≡ d =
-        ap (λ h. h v horizon move_after clps classes agents) start ∙ (ap (λ h. h horizon move_after clps classes agents) made0
-        ∙ (ap (λ h. h move_after clps classes agents) made1 ∙ (ap (λ h. h clps classes agents) made2
-        ∙ (ap (λ h. h classes agents) made3 ∙ (ap (λ h. h agents) made4 ∙ made5))))) in
+    ap (λ h. h v horizon move_after clps classes agents) start ∙ (ap (λ h. h horizon move_after clps classes agents) made0
+    ∙ (ap (λ h. h move_after clps classes agents) made1 ∙ (ap (λ h. h clps classes agents) made2
+    ∙ (ap (λ h. h classes agents) made3 ∙ (ap (λ h. h agents) made4 ∙ made5))))) in
     let same_agents : agents ≡ d.agents = ap (λ (k : Draft). k.agents) whole in
     let same_classes : classes ≡ d.classes = ap (λ (k : Draft). k.classes) whole in
     let agents_size = field_size agent_form nothing (unmeasured agent_form) (codes "agent") prefix root agents agents_there in

@@ -6,3 +6,4 @@ pub mod TextSizes
 pub mod NodeSizes
 pub mod DocumentSizes
 pub mod Fewness
+pub mod Worked

@@ -3,7 +3,7 @@ use Rattle.std.proofs.Common.{◌≡◌, refl, ap, sym, ◌∙◌, arith, ℕ, �
 use Rattle.std.proofs.lemmas.Grind.{flat_map-append}
 use Rattle.std.proofs.lemmas.List.{take_more, length-map}
 use Rattle.std.proofs.lemmas.List.Folds.{length-flat_map-take}
-use Rattle.pm_base.specs.Layouts.{Follow, IsLayout, var_count}
+use Rattle.pm_base.specs.Layouts.{var_count}
 use Rattle.pm_base.specs.declared.layout.ClassRow.{ClassRow}
 use Rattle.pm_plan.specs.Plans.{class_rows, all_vars}
 use Rattle.pm_plan.specs.declared.parts.ClassPart.{ClassPart}
@@ -46,14 +46,6 @@ rows_of n (c ∷ cs) = ap (λ rs. row n (length c.vars) ∷ rs) (rows_of (n + le
 pub table_rows : (cs : List ClassPart) → reading.class_rows (table_of cs) ≡ class_rows 0 cs
 table_rows cs = rows_of 0 cs
 
-follows : (n : ℕ) (cs : List ClassPart) → n + length (all_vars cs) < 2 ^ 32 → Follow n (class_rows n cs)
-follows n [] h = omega (arith, h)
-follows n (c ∷ cs) h = (refl, follows (n + length c.vars) cs (let l = length-append c.vars (all_vars cs) in omega (arith, h, l)))
-
-rows-length : (n : ℕ) (cs : List ClassPart) → length (class_rows n cs) ≡ length cs
-rows-length n [] = refl
-rows-length n (c ∷ cs) = let e = rows-length (n + length c.vars) cs in omega (arith, e)
-
 counted : (n : ℕ) (cs : List ClassPart) → var_count (class_rows n cs) ≡ length (all_vars cs)
 counted n [] = refl
 counted n (c ∷ cs) =
@@ -61,11 +53,8 @@ counted n (c ∷ cs) =
     let l = length-append c.vars (all_vars cs) in
     omega (arith, e, l)
 
-pub table_layout : (cs : List ClassPart) → length cs < 2 ^ 32 → length (all_vars cs) < 2 ^ 32 → IsLayout (record { classes = reading.class_rows (table_of cs) })
-table_layout cs few vars = rw (table_rows cs) (record { few = (let e = rows-length 0 cs in omega (arith, e, few)); follow = follows 0 cs (omega (arith, vars)) })
-
-pub table_vars : (cs : List ClassPart) → var_count (reading.class_rows (table_of cs)) ≡ length (var_names cs)
-table_vars cs = rw (table_rows cs) (counted 0 cs ∙ sym (length-map (all_vars cs) (λ v. v.name)))
+pub table_vars : (cs : List ClassPart) → length (var_names cs) ≡ var_count (reading.class_rows (table_of cs))
+table_vars cs = rw (table_rows cs) (length-map (all_vars cs) (λ v. v.name) ∙ sym (counted 0 cs))
 
 rows-count : (n : ℕ) (cs : List ClassPart) → length (named_rows n cs) ≡ length cs
 rows-count n [] = refl

@@ -77,7 +77,7 @@ added : (k : List ℕ) (origin : Origin) (edit : Edit) (a : ℕ) → Grows a edi
     Adds nodes_size (nodes_size ns + a) (option_map (λ new. insert k (open_table origin new) ns) (edit no_nodes))
 added k origin edit a grows ns =
     adds_map (λ new. insert k (open_table origin new) ns) nodes_size nodes_size (nodes_size no_nodes + a) (nodes_size ns + a) (edit no_nodes)
-      (λ new h. let i = inserted k (open_table origin new) ns in omega (arith, h, i)) (grows no_nodes)
+    (λ new h. let i = inserted k (open_table origin new) ns in omega (arith, h, i)) (grows no_nodes)
 
 -- a node in the place of the one at a key
 changed : (k : List ℕ) (x : Node) (a : ℕ) (ns : Nodes) (o : Option Node) → get_node k ns ≡ Some x → Adds node_size (node_size x + a) o →
@@ -147,13 +147,13 @@ document_nodes doc = nodes_size doc.0
 define_as_adds : (doc : Document) (key : Key) (what : Definition) → Adds document_nodes (document_nodes doc + definition_size what) (define_as doc key what)
 define_as_adds doc key (key_value d) =
     adds_map (λ root. (root, doc.1)) nodes_size document_nodes (nodes_size doc.0 + size d) _ (along_header doc.1 (put key d) doc.0) (λ _ h. h)
-      (along_header_grows doc.1 (put key d) (size d) (put_grows key d) doc.0)
+    (along_header_grows doc.1 (put key d) (size d) (put_grows key d) doc.0)
 define_as_adds doc key std_table =
     adds_map (λ root. (root, key.0 ++ key.1 ∷ [])) nodes_size document_nodes (nodes_size doc.0 + 0) _ (along_header key.0 (at_key key.1 std_table) doc.0) (λ _ h. h)
-      (along_header_grows key.0 (at_key key.1 std_table) 0 (at_key_grows key.1 std_table) doc.0)
+    (along_header_grows key.0 (at_key key.1 std_table) 0 (at_key_grows key.1 std_table) doc.0)
 define_as_adds doc key array_table =
     adds_map (λ root. (root, key.0 ++ key.1 ∷ [])) nodes_size document_nodes (nodes_size doc.0 + 1) _ (along_header key.0 (at_key key.1 array_table) doc.0) (λ _ h. h)
-      (along_header_grows key.0 (at_key key.1 array_table) 1 (at_key_grows key.1 array_table) doc.0)
+    (along_header_grows key.0 (at_key key.1 array_table) 1 (at_key_grows key.1 array_table) doc.0)
 
 pub define_adds : (doc : Document) (e : Expression) → Adds document_nodes (document_nodes doc + definition_size e.1) (define doc e)
 unfolding define

@@ -104,7 +104,7 @@ blank text = from_skipped true false text
 trimmed : (text : List ℕ) → length (trim_newline text) ≤ length text
 trimmed text =
     shorter_if (length text) (first text == 10) (drop 1 text) (if starts_newline text then drop 2 text else text) (dropped 1 text)
-      (shorter_if (length text) (starts_newline text) (drop 2 text) text (dropped 2 text) (omega arith))
+    (shorter_if (length text) (starts_newline text) (drop 2 text) text (dropped 2 text) (omega arith))
 
 hex_costs : (n : ℕ) (text : List ℕ) → Costs free (length text) (hex_escape n text)
 unfolding hex_escape
@@ -118,14 +118,14 @@ escape_char_costs : (text : List ℕ) → Costs free (length text) (escape_char 
 unfolding escape_char
 escape_char_costs text =
     costs_if free (length text) (nat_lt 0 (hex_len (first text))) (hex_escape (hex_len (first text)) (drop 1 text)) (option_map (λ c. (c, drop 1 text)) (simple_escape (first text)))
-      (λ _. costs_more free (length (drop 1 text)) _ _ (dropped 1 text) (hex_costs (hex_len (first text)) (drop 1 text))) (λ _. simple_costs (simple_escape (first text)) text)
+    (λ _. costs_more free (length (drop 1 text)) _ _ (dropped 1 text) (hex_costs (hex_len (first text)) (drop 1 text))) (λ _. simple_costs (simple_escape (first text)) text)
 
 escape_costs : (multi : Bool) (text : List ℕ) → Costs free (length text) (escape multi text)
 unfolding escape
 escape_costs multi text =
     costs_if free (length text) (multi && starts_newline (skip_ws text)) (Some ([], skip_lines text)) (option_map (λ p. (encode_utf8 p.0, p.1)) (escape_char text))
-      (λ _. costs_free _ _ _ (from_skipped false false text))
-      (λ _. costs_map encode_utf8 free free (length text) (length text) (escape_char text) (λ _. omega arith) (escape_char_costs text))
+    (λ _. costs_free _ _ _ (from_skipped false false text))
+    (λ _. costs_map encode_utf8 free free (length text) (length text) (escape_char text) (λ _. omega arith) (escape_char_costs text))
 
 delims_costs : (delim : ℕ) (text : List ℕ) → Costs free (length text) (at_delims delim text)
 delims_costs delim text = search (costs_if, costs_free, costs_none, dropped)
@@ -141,10 +141,10 @@ special_costs : (delim : ℕ) (multi : Bool) (text : List ℕ) → Costs free (l
 unfolding special
 special_costs delim multi text =
     costs_if free (length text) (first text == delim) (if multi then at_delims delim text else Some (None, drop 1 text)) (other_special multi text)
-      (λ _. costs_if free (length text) multi (at_delims delim text) (Some (None, drop 1 text)) (λ _. delims_costs delim text) (λ _. costs_free _ _ _ (dropped 1 text)))
-      (λ _. costs_if free (length text) (first text == backslash) (option_map (λ p. (Some p.0, p.1)) (escape multi (drop 1 text))) (newline_special multi text)
-        (λ _. costs_map (λ b. Some b) free free (length (drop 1 text)) (length text) (escape multi (drop 1 text)) (λ _. omega (arith, dropped 1 text)) (escape_costs multi (drop 1 text)))
-        (λ _. costs_if free (length text) (multi && starts_newline text) (Some (Some (first text ∷ []), drop 1 text)) None (λ _. costs_free _ _ _ (dropped 1 text)) (λ _. costs_none _ _)))
+    (λ _. costs_if free (length text) multi (at_delims delim text) (Some (None, drop 1 text)) (λ _. delims_costs delim text) (λ _. costs_free _ _ _ (dropped 1 text)))
+    (λ _. costs_if free (length text) (first text == backslash) (option_map (λ p. (Some p.0, p.1)) (escape multi (drop 1 text))) (newline_special multi text)
+    (λ _. costs_map (λ b. Some b) free free (length (drop 1 text)) (length text) (escape multi (drop 1 text)) (λ _. omega (arith, dropped 1 text)) (escape_costs multi (drop 1 text)))
+    (λ _. costs_if free (length text) (multi && starts_newline text) (Some (Some (first text ∷ []), drop 1 text)) None (λ _. costs_free _ _ _ (dropped 1 text)) (λ _. costs_none _ _)))
 
 pieces : (more : List ℕ → Read (List ℕ)) → ((text : List ℕ) → Costs free (length text) (more text)) → (m : ℕ) (piece : Option (List ℕ)) (rest : List ℕ) → length rest ≤ m →
     Costs free m (after_piece more piece rest)
@@ -156,9 +156,9 @@ unfolding body
 body_costs delim multi zero text = costs_none _ _
 body_costs delim multi (suc n) text =
     costs_if free (length text) (is_plain delim multi (first text)) (prepend (first text ∷ []) (body delim multi n (drop 1 text))) (option_and_then (λ p. after_piece (body delim multi n) p.0 p.1) (special delim multi text))
-      (λ _. costs_map (λ b. (first text ∷ []) ++ b) free free (length (drop 1 text)) (length text) (body delim multi n (drop 1 text)) (λ _. omega (arith, dropped 1 text)) (body_costs delim multi n (drop 1 text)))
-      (λ _. costs_then free free (length text) (length text) (special delim multi text) (λ p. after_piece (body delim multi n) p.0 p.1) (special_costs delim multi text)
-        (λ p h. pieces (body delim multi n) (body_costs delim multi n) (length text) p.0 p.1 (omega (arith, h))))
+    (λ _. costs_map (λ b. (first text ∷ []) ++ b) free free (length (drop 1 text)) (length text) (body delim multi n (drop 1 text)) (λ _. omega (arith, dropped 1 text)) (body_costs delim multi n (drop 1 text)))
+    (λ _. costs_then free free (length text) (length text) (special delim multi text) (λ p. after_piece (body delim multi n) p.0 p.1) (special_costs delim multi text)
+    (λ p h. pieces (body delim multi n) (body_costs delim multi n) (length text) p.0 p.1 (omega (arith, h))))
 
 started_by : (b c : Bool) (text : List ℕ) → (first text == 34) ≡ b → (first text == 39) ≡ c → (b || c) ≡ true → 1 + length (drop 1 text) ≤ length text
 started_by true c text q a h = first_there 34 text (omega arith) q
@@ -178,8 +178,8 @@ pub quoted_costs : (text : List ℕ) → starts_string text ≡ true → Costs o
 unfolding quoted
 quoted_costs text h =
     costs_if one (length text) (slice_index text 1 == first text && slice_index text 2 == first text) (body (first text) true (length text) (trim_newline (drop 3 text))) (one_line text)
-      (λ _. costs_raise (length (trim_newline (drop 3 text))) (length text) _ (let a = trimmed (drop 3 text) in let b = started text h in let c = thrice text in omega (arith, a, b, c)) (body_costs (first text) true (length text) (trim_newline (drop 3 text))))
-      (λ _. one_line_costs text h)
+    (λ _. costs_raise (length (trim_newline (drop 3 text))) (length text) _ (let a = trimmed (drop 3 text) in let b = started text h in let c = thrice text in omega (arith, a, b, c)) (body_costs (first text) true (length text) (trim_newline (drop 3 text))))
+    (λ _. one_line_costs text h)
 
 -- words
 
@@ -200,7 +200,7 @@ pub unquoted_costs : (text : List ℕ) → Costs one (length text) (unquoted tex
 unfolding unquoted
 unquoted_costs text =
     costs_if one (length text) (word_len text == 0) None (option_map (λ d. (d, drop (word_len text) text)) (word_value (take (word_len text) text)))
-      (λ _. costs_none _ _) (λ h. word_costs _ (word_len text) text (positive (word_len text) h) (some_word text h))
+    (λ _. costs_none _ _) (λ h. word_costs _ (word_len text) text (positive (word_len text) h) (some_word text h))
 
 -- keys
 
@@ -213,21 +213,21 @@ simple_key_costs : (text : List ℕ) → Costs free (length text) (simple_key te
 unfolding simple_key
 simple_key_costs text =
     costs_if free (length text) (starts_string text) (one_line text) (if is_bare (first text) then Some (split_while is_bare text) else None)
-      (λ h. costs_forget _ _ (one_line_costs text h))
-      (λ _. costs_if free (length text) (is_bare (first text)) (Some (split_while is_bare text)) None (λ _. costs_free _ _ _ (dropped _ text)) (λ _. costs_none _ _))
+    (λ h. costs_forget _ _ (one_line_costs text h))
+    (λ _. costs_if free (length text) (is_bare (first text)) (Some (split_while is_bare text)) None (λ _. costs_free _ _ _ (dropped _ text)) (λ _. costs_none _ _))
 
 key_after_costs : (n : ℕ) (path : List (List ℕ)) (text : List ℕ) → Costs free (length text) (key_after n path text)
 unfolding key_after
 key_after_costs zero path text = costs_none _ _
 key_after_costs (suc n) path text =
     costs_then free free (length text) (length text) (simple_key text)
-      (λ part. if first (skip_ws part.1) == dot then key_after n (path ++ part.0 ∷ []) (skip_ws (drop 1 (skip_ws part.1))) else Some ((path, part.0), skip_ws part.1))
-      (simple_key_costs text)
-      (λ p h. costs_if free (length text) (first (skip_ws p.1) == dot) (key_after n (path ++ p.0 ∷ []) (skip_ws (drop 1 (skip_ws p.1)))) (Some ((path, p.0), skip_ws p.1))
-        (λ _. costs_more free (length (skip_ws (drop 1 (skip_ws p.1)))) (length text) _
-          (let a = ws p.1 in let b = dropped 1 (skip_ws p.1) in let c = ws (drop 1 (skip_ws p.1)) in omega (arith, a, b, c, h))
-          (key_after_costs n (path ++ p.0 ∷ []) (skip_ws (drop 1 (skip_ws p.1)))))
-        (λ _. costs_free _ _ _ (let a = ws p.1 in omega (arith, a, h))))
+    (λ part. if first (skip_ws part.1) == dot then key_after n (path ++ part.0 ∷ []) (skip_ws (drop 1 (skip_ws part.1))) else Some ((path, part.0), skip_ws part.1))
+    (simple_key_costs text)
+    (λ p h. costs_if free (length text) (first (skip_ws p.1) == dot) (key_after n (path ++ p.0 ∷ []) (skip_ws (drop 1 (skip_ws p.1)))) (Some ((path, p.0), skip_ws p.1))
+    (λ _. costs_more free (length (skip_ws (drop 1 (skip_ws p.1)))) (length text) _
+    (let a = ws p.1 in let b = dropped 1 (skip_ws p.1) in let c = ws (drop 1 (skip_ws p.1)) in omega (arith, a, b, c, h))
+    (key_after_costs n (path ++ p.0 ∷ []) (skip_ws (drop 1 (skip_ws p.1)))))
+    (λ _. costs_free _ _ _ (let a = ws p.1 in omega (arith, a, h))))
 
 pub key_costs : (text : List ℕ) → Costs free (length text) (key text)
 key_costs text = key_after_costs recursion_limit [] text
@@ -244,7 +244,7 @@ key_equals_costs : (text : List ℕ) → Costs free (length text) (key_equals te
 unfolding key_equals
 key_equals_costs text =
     costs_then free free (length text) (length text) (key text) (λ k. option_map (λ rest. (k.0, skip_ws rest)) (after_byte equals k.1)) (key_costs text)
-      (λ p h. byte_costs free p.0 skip_ws ws equals p.1 (length text) h)
+    (λ p h. byte_costs free p.0 skip_ws ws equals p.1 (length text) h)
 
 -- values
 
@@ -258,7 +258,7 @@ pair_charge p = charge p.1
 pub keyval_costs : (v : List ℕ → Read Data) → ((text : List ℕ) → Costs charge (length text) (v text)) → (text : List ℕ) → Costs pair_charge (length text) (keyval v text)
 keyval_costs v costs text =
     costs_then free pair_charge (length text) (length text) (key_equals text) (λ k. read_map (λ d. (k.0, d)) (v k.1)) (key_equals_costs text)
-      (λ p h. costs_map (λ d. (p.0, d)) pair_charge charge (length p.1) (length text) (v p.1) (λ _. omega (arith, h)) (costs p.1))
+    (λ p h. costs_map (λ d. (p.0, d)) pair_charge charge (length p.1) (length text) (v p.1) (λ _. omega (arith, h)) (costs p.1))
 
 pub element_then : {A : Type 0} (w : A → ℕ) (m closing : ℕ) (text : List ℕ) (k : List ℕ → Read A) → ((rest : List ℕ) → length rest ≤ length text → Costs w m (k rest)) →
     Costs w m (option_and_then k (after_element closing text))
@@ -267,9 +267,9 @@ element_then w m closing text k h =
     elim (cases_Bool (first (skip_blank text) == comma)) [
       | inl a ↦ rw a (h (drop 1 (skip_blank text)) (let x = dropped 1 (skip_blank text) in let y = blank text in omega (arith, x, y)))
       | inr a ↦ rw a (elim (cases_Bool (first (skip_blank text) == closing)) [
-          | inl b ↦ rw b (h (skip_blank text) (blank text))
-          | inr b ↦ rw b (costs_none w m)
-        ])
+        | inl b ↦ rw b (h (skip_blank text) (blank text))
+        | inr b ↦ rw b (costs_none w m)
+      ])
     ]
 
 pub pushed : (ds : Items) (d : Data) → items_size (push_item ds d) ≡ items_size ds + (1 + size d)
@@ -282,10 +282,10 @@ unfolding items
 items_costs v costs zero found text = costs_none _ _
 items_costs v costs (suc n) found text =
     costs_if items_size (items_size found + length text) (first (skip_blank text) == right_bracket) (Some (found, drop 1 (skip_blank text)))
-      (option_and_then (λ p. option_and_then (items v n (push_item found p.0)) (after_element right_bracket p.1)) (v (skip_blank text)))
-      (λ _. costs_some _ _ _ _ (let a = dropped 1 (skip_blank text) in let b = blank text in omega (arith, a, b)))
-      (λ _. costs_then charge items_size (length (skip_blank text)) (items_size found + length text) (v (skip_blank text))
-        (λ p. option_and_then (items v n (push_item found p.0)) (after_element right_bracket p.1)) (costs (skip_blank text))
-        (λ p fits. element_then items_size (items_size found + length text) right_bracket p.1 (items v n (push_item found p.0))
-          (λ rest short. costs_more items_size (items_size (push_item found p.0) + length rest) (items_size found + length text) _
-            (let a = pushed found p.0 in let b = blank text in omega (arith, a, b, fits, short)) (items_costs v costs n (push_item found p.0) rest))))
+    (option_and_then (λ p. option_and_then (items v n (push_item found p.0)) (after_element right_bracket p.1)) (v (skip_blank text)))
+    (λ _. costs_some _ _ _ _ (let a = dropped 1 (skip_blank text) in let b = blank text in omega (arith, a, b)))
+    (λ _. costs_then charge items_size (length (skip_blank text)) (items_size found + length text) (v (skip_blank text))
+    (λ p. option_and_then (items v n (push_item found p.0)) (after_element right_bracket p.1)) (costs (skip_blank text))
+    (λ p fits. element_then items_size (items_size found + length text) right_bracket p.1 (items v n (push_item found p.0))
+    (λ rest short. costs_more items_size (items_size (push_item found p.0) + length rest) (items_size found + length text) _
+    (let a = pushed found p.0 in let b = blank text in omega (arith, a, b, fits, short)) (items_costs v costs n (push_item found p.0) rest))))

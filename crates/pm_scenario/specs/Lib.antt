@@ -1,4 +1,5 @@
 pub mod Forms
 pub mod Places
 pub mod Scenarios
+pub mod Samples
 pub mod Fewness

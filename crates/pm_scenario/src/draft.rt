@@ -1,4 +1,4 @@
-ghost use Rattle.std.specs.Prelude.{◌≡◌, ◌⊎◌, []};
+ghost use Rattle.std.specs.Prelude.{◌≡◌, []};
 ghost use Rattle.toml.specs.View.{table_view};
 ghost use Rattle.pm_scenario.specs.Forms.{Gives, field_at, walk};
 ghost use Rattle.pm_scenario.specs.Places.{prefix_of};
@@ -22,8 +22,7 @@ pub enum Version {
 
 impl Version {
     pub fn number(self) -> u32
-        ensures value { result ≡ version_number self }
-        ensures known { (result ≡ 1) ⊎ (result ≡ 2) }
+        ensures { result ≡ version_number self }
     {
         match self {
             Version::One => 1,
@@ -147,7 +146,12 @@ impl FromTable for Draft {
 
     #[tactic(auto, unfolding(crate::specs::Scenarios::root_form, crate::specs::Forms::no_strange))]
     fn read(alloc: Global, place: &Place<'_>, table: &Table) -> Result<Draft, ScenarioFault> {
-        no_strange(alloc, place, &["version", "horizon", "move_after", "clp", "class", "agent"], table)?;
+        no_strange(
+            alloc,
+            place,
+            &["version", "horizon", "move_after", "clp", "class", "agent"],
+            table,
+        )?;
         let version = version_at(alloc, place, table)?;
         let horizon = count_at(alloc, place, "horizon", None, table)?;
         let move_after = count_at(alloc, place, "move_after", Some(0), table)?;

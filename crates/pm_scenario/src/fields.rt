@@ -35,7 +35,12 @@ fn strange<'a>(keys: &[&str], table: &'a Table) -> Option<&'a str>
 
 /// Refuses a table that has other keys than these.
 #[tactic(auto, unfolding(crate::specs::Forms::no_strange))]
-pub fn no_strange(alloc: Global, place: &Place<'_>, keys: &[&str], table: &Table) -> Result<(), ScenarioFault>
+pub fn no_strange(
+    alloc: Global,
+    place: &Place<'_>,
+    keys: &[&str],
+    table: &Table,
+) -> Result<(), ScenarioFault>
     ensures { Gives result (no_strange (prefix_of place.now) (map (λ s. s.now) keys.now) (table_view table.now)) }
 {
     match strange(keys, table) {
@@ -54,7 +59,12 @@ pub fn find<'a>(table: &'a Table, key: &str) -> Option<&'a Value>
 }
 
 /// The text at a key that is required.
-pub fn text_at(alloc: Global, place: &Place<'_>, key: &str, table: &Table) -> Result<Name, ScenarioFault>
+pub fn text_at(
+    alloc: Global,
+    place: &Place<'_>,
+    key: &str,
+    table: &Table,
+) -> Result<Name, ScenarioFault>
     ensures { Gives result (field_at (required key.now text) (prefix_of place.now) (table_view table.now)) }
 {
     match find(table, key) {
@@ -71,7 +81,12 @@ pub fn text_at(alloc: Global, place: &Place<'_>, key: &str, table: &Table) -> Re
 }
 
 /// The text at a key that may be absent.
-pub fn optional_text_at(alloc: Global, place: &Place<'_>, key: &str, table: &Table) -> Result<Option<Name>, ScenarioFault>
+pub fn optional_text_at(
+    alloc: Global,
+    place: &Place<'_>,
+    key: &str,
+    table: &Table,
+) -> Result<Option<Name>, ScenarioFault>
     ensures { Gives result (field_at (default key.now (optional text) None) (prefix_of place.now) (table_view table.now)) }
 {
     match find(table, key) {
@@ -86,7 +101,13 @@ pub fn optional_text_at(alloc: Global, place: &Place<'_>, key: &str, table: &Tab
 }
 
 /// The integer at a key, or the default.
-pub fn number_at(alloc: Global, place: &Place<'_>, key: &str, absent: i64, table: &Table) -> Result<i64, ScenarioFault>
+pub fn number_at(
+    alloc: Global,
+    place: &Place<'_>,
+    key: &str,
+    absent: i64,
+    table: &Table,
+) -> Result<i64, ScenarioFault>
     ensures { Gives result (field_at (default key.now number absent) (prefix_of place.now) (table_view table.now)) }
 {
     match find(table, key) {

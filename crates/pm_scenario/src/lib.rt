@@ -5,10 +5,14 @@ mod document;
 mod draft;
 mod fault;
 mod fields;
+mod laws;
 mod place;
 mod rules;
 mod scenario;
 mod tables;
+#[cfg(test)]
+mod tests;
 
 pub use fault::ScenarioFault;
+pub use laws::worked_texts;
 pub use scenario::read;

@@ -1,7 +1,7 @@
-ghost use Rattle.std.specs.Prelude.{◌≡◌, ◌<◌, ◌^◌, ◌⊎◌, ◌+◌, ◌++◌, length, map, true, IfOk, OnOk};
+ghost use Rattle.std.specs.Prelude.{◌≡◌, ◌<◌, ◌^◌, ◌+◌, ◌++◌, length, map, true, IfOk, OnOk};
 ghost use Rattle.std.specs.List.{list_all};
 ghost use Rattle.pm_base.specs.Fits.{fits};
-ghost use Rattle.pm_base.specs.Layouts.{IsLayout, var_count};
+ghost use Rattle.pm_base.specs.Layouts.{var_count};
 ghost use Rattle.pm_plan.specs.Plans.{all_vars, rules_fit};
 ghost use Rattle.pm_plan.specs.declared.parts.AgentPart.{AgentPart as Agent};
 ghost use Rattle.pm_rules.specs.Reading.{class_rows};
@@ -13,7 +13,7 @@ use crate::ScenarioFault;
 use crate::draft::{AgentText, Draft};
 use pm_base::{ClassRow, List, Memory, Name};
 use pm_plan::{AgentPart, ClassPart, PlanParts, VarPart};
-use pm_rules::{Names, RuleFault, parse};
+use pm_rules::{Names, RuleFault, accepted_texts_are_rules, parse};
 use std::alloc::Global;
 
 /// The classes with their names.
@@ -60,9 +60,7 @@ fn agent_part(
     index: u32,
     agent: AgentText,
 ) -> Result<AgentPart, ScenarioFault>
-    requires version { (version ≡ 1) ⊎ (version ≡ 2) }
-    requires layout { IsLayout (record { classes = class_rows names.now }) }
-    requires vars { var_count (class_rows names.now) ≡ length names.now.vars }
+    requires vars { length names.now.vars ≡ var_count (class_rows names.now) }
     ensures part { Gives result (agent_part names.now version index agent) }
     ensures fits { IfOk result (λ a. fits a.program (record { classes = class_rows names.now }) ≡ true) }
 {
@@ -72,6 +70,7 @@ fn agent_part(
         start,
         rule,
     } = agent;
+    accepted_texts_are_rules();
     match parse(alloc, rule.as_str(), names, version) {
         Ok(program) => Ok(AgentPart {
             name,
@@ -95,9 +94,7 @@ fn agent_parts(
     version: u32,
     agents: List<AgentText>,
 ) -> Result<List<AgentPart>, ScenarioFault>
-    requires version { (version ≡ 1) ⊎ (version ≡ 2) }
-    requires layout { IsLayout (record { classes = class_rows names.now }) }
-    requires vars { var_count (class_rows names.now) ≡ length names.now.vars }
+    requires vars { length names.now.vars ≡ var_count (class_rows names.now) }
     requires few { length agents < 2 ^ 32 }
     ensures parts { Gives result (agent_parts names.now version 0 agents) }
     ensures fit { IfOk result (λ ps. list_all (λ (a : Agent). fits a.program (record { classes = class_rows names.now })) ps ≡ true) }

@@ -44,7 +44,13 @@ fn all_tables(alloc: Global, prefix: &str, key: &str, values: &[Value]) -> Resul
     Ok(())
 }
 
-fn element<T: FromTable>(alloc: Global, prefix: &str, key: &str, index: usize, value: &Value) -> Result<T, ScenarioFault>
+fn element<T: FromTable>(
+    alloc: Global,
+    prefix: &str,
+    key: &str,
+    index: usize,
+    value: &Value,
+) -> Result<T, ScenarioFault>
     ensures { Gives result (element T.form (indexed (prefix.now ++ key.now) index) (view value.now)) }
 {
     match value.as_table() {
@@ -56,7 +62,12 @@ fn element<T: FromTable>(alloc: Global, prefix: &str, key: &str, index: usize, v
 }
 
 #[tactic(auto, using(crate::proofs::Walks::walk_laws), unfolding(crate::specs::Forms::elements))]
-fn elements<T: FromTable>(alloc: Global, prefix: &str, key: &str, values: &[Value]) -> Result<List<T>, ScenarioFault>
+fn elements<T: FromTable>(
+    alloc: Global,
+    prefix: &str,
+    key: &str,
+    values: &[Value],
+) -> Result<List<T>, ScenarioFault>
     ensures { Gives result (elements T.form (prefix.now ++ key.now) 0 (items_view values.now)) }
 {
     let mut rows = List::new(alloc);
@@ -68,7 +79,12 @@ fn elements<T: FromTable>(alloc: Global, prefix: &str, key: &str, values: &[Valu
 }
 
 #[tactic(auto, unfolding(crate::specs::Forms::tables))]
-fn tables<T: FromTable>(alloc: Global, prefix: &str, key: &str, value: &Value) -> Result<List<T>, ScenarioFault>
+fn tables<T: FromTable>(
+    alloc: Global,
+    prefix: &str,
+    key: &str,
+    value: &Value,
+) -> Result<List<T>, ScenarioFault>
     ensures { Gives result (tables T.form (prefix.now ++ key.now) (view value.now)) }
 {
     match value.as_array() {
@@ -83,7 +99,12 @@ fn tables<T: FromTable>(alloc: Global, prefix: &str, key: &str, value: &Value) -
 }
 
 /// The tables in the array at a key, none where the key is absent.
-pub fn tables_at<T: FromTable>(alloc: Global, place: &Place<'_>, key: &str, table: &Table) -> Result<List<T>, ScenarioFault>
+pub fn tables_at<T: FromTable>(
+    alloc: Global,
+    place: &Place<'_>,
+    key: &str,
+    table: &Table,
+) -> Result<List<T>, ScenarioFault>
     ensures { Gives result (field_at (default key.now (tables T.form) []) (prefix_of place.now) (table_view table.now)) }
 {
     match find(table, key) {

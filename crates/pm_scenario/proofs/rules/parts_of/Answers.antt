@@ -6,7 +6,7 @@ use Rattle.pm_plan.specs.Plans.{rules_fit}
 use Rattle.pm_plan.specs.declared.parts.AgentPart.{AgentPart}
 use Rattle.pm_rules.specs.Reading.{class_rows}
 use Rattle.pm_scenario.specs.Scenarios.{named_rows, table_of}
-use Rattle.pm_scenario.proofs.NamedRows.{table_rows, table_layout, table_vars, table_count}
+use Rattle.pm_scenario.proofs.NamedRows.{table_rows, table_vars, table_count}
 use Rattle.pm_scenario.proofs.rules.parts_of.Goals as goal
 
 pub make-requires-clause-classes : goal.make-requires-clause-classes
@@ -16,15 +16,10 @@ make-requires-clause-classes c =
     let count = ap length rows ∙ table_count c.args.draft.classes in
     omega (arith, count, few)
 
-pub agent_parts-requires-clause-layout : goal.agent_parts-requires-clause-layout
-agent_parts-requires-clause-layout c =
+pub agent_parts-requires : goal.agent_parts-requires
+agent_parts-requires c =
     let same : c.in_ok-names.names ≡ table_of c.args.draft.classes = search rules in
-    rw same (table_layout c.args.draft.classes c.requires.few.classes c.requires.few.vars)
-
-pub agent_parts-requires-clause-vars : goal.agent_parts-requires-clause-vars
-agent_parts-requires-clause-vars c =
-    let same : c.in_ok-names.names ≡ table_of c.args.draft.classes = search rules in
-    rw same (table_vars c.args.draft.classes)
+    record { vars = rw same (table_vars c.args.draft.classes); few = c.requires.few.agents }
 
 pub returns-clause-fit : goal.returns-clause-fit
 returns-clause-fit c =
