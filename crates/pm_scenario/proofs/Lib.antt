@@ -1,6 +1,9 @@
-pub mod Keys
-pub mod RuleLexingLaws
-pub mod RuleLinesLaws
-pub mod RuleNamesLaws
-pub mod RuleSpellLaws
-pub mod RuleSpelledLaws
+pub mod Walks
+pub mod NamedRows
+pub mod Sizes
+pub mod DraftSizes
+pub mod TextSizes
+pub mod NodeSizes
+pub mod DocumentSizes
+pub mod Fewness
+pub mod Worked

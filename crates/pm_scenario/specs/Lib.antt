@@ -1,9 +1,5 @@
-pub mod RuleAnswers
-pub mod RuleTokens
-pub mod RuleLexing
-pub mod RuleLines
-pub mod RuleReading
-pub mod RuleText
-pub mod RuleSpell
-pub mod Documents
+pub mod Forms
+pub mod Places
 pub mod Scenarios
+pub mod Samples
+pub mod Fewness

@@ -1,81 +1,149 @@
--- The plan of a scenario text of the form that is built so far.
-use Rattle.std.specs.Prelude.{ℕ, ◌==◌, ◌&&◌, pos, List, [], ◌∷◌, ◌++◌, nat_le, codes, if◌then◌else◌, Option, Some, None}
-use Rattle.std.specs.Str.{bytes_eq}
-use Rattle.toml.specs.Data.{Members}
+-- Which keys a scenario's tables have, and the plan of a text.
+use Rattle.std.specs.Prelude.{ℕ, ◌+◌, ◌==◌, length, map, List, [], ◌∷◌, Option, Some, None, Result, Ok, Err, ℤ, pos, negsuc, codes, if◌then◌else◌}
+use Rattle.std.specs.Str.{is_utf8}
+use Rattle.toml.specs.Data.{Data, Members}
+use Rattle.toml.specs.Parse.{parse_document}
+use Rattle.pm_base.specs.declared.layout.ClassRow.{ClassRow}
 use Rattle.pm_base.specs.declared.program.Program.{Program}
+use Rattle.pm_plan.specs.Plans.{all_vars}
+use Rattle.pm_plan.specs.Plans as plans
+use Rattle.pm_plan.specs.declared.fault.PlanFault.{PlanFault}
+use Rattle.pm_plan.specs.declared.parts.AgentPart.{AgentPart}
+use Rattle.pm_plan.specs.declared.parts.ClassPart.{ClassPart}
+use Rattle.pm_plan.specs.declared.parts.ClpPart.{ClpPart}
+use Rattle.pm_plan.specs.declared.parts.PlanParts.{PlanParts}
+use Rattle.pm_plan.specs.declared.parts.VarPart.{VarPart}
 use Rattle.pm_plan.specs.declared.plan.Plan.{Plan}
-use Rattle.pm_scenario.specs.Documents.{document_of, key_count, text_at, name_at, count_at, table_at}
-use Rattle.pm_scenario.specs.RuleAnswers.{◌>>=◌}
-use Rattle.pm_scenario.specs.RuleSpell.{worked_program}
-use Rattle.pm_scenario.specs.RuleText.{rule_of}
+use Rattle.pm_rules.specs.Reading.{Table}
+use Rattle.pm_rules.specs.Rules.{parsed}
+use Rattle.pm_rules.specs.declared.fault.RuleFault.{RuleFault}
+use Rattle.pm_scenario.specs.Forms.{◌>>=◌, Kind, Field, Form, field_at, made_by, ◌◃◌, walk, text, number, count, optional, tables, required, default}
+use Rattle.pm_scenario.specs.declared.draft.AgentText.{AgentText}
+use Rattle.pm_scenario.specs.declared.draft.Draft.{Draft}
+use Rattle.pm_scenario.specs.declared.draft.Version.{Version}
+use Rattle.pm_scenario.specs.declared.draft.Version.TheVariants as versions
+use Rattle.pm_scenario.specs.declared.fault.ScenarioFault.{ScenarioFault}
+use Rattle.pm_scenario.specs.declared.fault.ScenarioFault.TheVariants as fault
 
--- the horizon of a scenario of version 1
-unfoldable pub horizon_of : Members → Option ℕ
-horizon_of root = do
-  version ← count_at (codes "version") root
-  horizon ← count_at (codes "horizon") root
-  if version == 1 && nat_le horizon 1000 then Some horizon else None
+abbrev pub clp_part : List ℕ → Option (List ℕ) → ClpPart
+clp_part name parent = record { name = name; parent = parent }
 
--- the name of the one communication process
-unfoldable pub clp_of : Members → Option (List ℕ)
-clp_of root = do
-  t ← table_at (codes "clp") 1 root
-  name_at (codes "name") t
+abbrev pub var_part : List ℕ → List ℕ → ℤ → ℤ → VarPart
+var_part name at x y = record { name = name; at = at; value = record { x = x; y = y } }
 
--- the names of the one class and of its one variable, which is at that process
-unfoldable pub class_of : List ℕ → Members → Option (List ℕ × List ℕ)
-class_of clp root = do
-  t ← table_at (codes "class") 2 root
-  class ← name_at (codes "name") t
-  v ← table_at (codes "var") 2 t
-  var ← name_at (codes "name") v
-  at ← text_at (codes "at") v
-  if bytes_eq at clp then Some (class, var) else None
+abbrev pub class_part : List ℕ → List VarPart → ClassPart
+class_part name vars = record { name = name; vars = vars }
 
--- the name and the rule of the one agent, which is at that process
-unfoldable pub agent_of : List ℕ → Members → Option (List ℕ × List ℕ)
-agent_of clp root = do
-  t ← table_at (codes "agent") 3 root
-  name ← name_at (codes "name") t
-  rule ← text_at (codes "rule") t
-  home ← text_at (codes "home") t
-  if bytes_eq home clp then Some (name, rule) else None
+abbrev pub agent_text : List ℕ → List ℕ → ℕ → List ℕ → AgentText
+agent_text name home start rule = record { name = name; home = home; start = start; rule = rule }
 
--- the plan of these parts: all begins at 0
-abbrev pub plan_from : ℕ → List ℕ → List ℕ → List ℕ → List ℕ → Program → Plan
-plan_from horizon clp class var agent program = record {
-  horizon = horizon;
-  move_after = 0;
-  clps = record { name = clp; parent = None } ∷ [];
-  layout = record { classes = record { first = 0; count = 1 } ∷ [] };
-  classes = class ∷ [];
-  vars = record { name = var; at = 0; value = record { x = pos 0; y = pos 0 } } ∷ [];
-  agents = record { name = agent; home = 0; start = 0; program = program } ∷ [];
-}
+abbrev pub draft : Version → ℕ → ℕ → List ClpPart → List ClassPart → List AgentText → Draft
+draft version horizon move_after clps classes agents =
+    record { version = version; horizon = horizon; move_after = move_after; clps = clps; classes = classes; agents = agents }
 
--- the plan of the parts of a root table
-unfoldable pub plan_of_parts : Members → Option Plan
-plan_of_parts root = do
-  horizon ← horizon_of root
-  clp ← clp_of root
-  class ← class_of clp root
-  agent ← agent_of clp root
-  program ← rule_of (class.1 ∷ []) agent.1
-  Some (plan_from horizon clp class.0 class.1 agent.0 program)
+abbrev pub version_number : Version → ℕ
+version_number versions.One = 1
+version_number versions.Two = 2
 
--- the plan of a root table of five keys: the five that are looked for
-unfoldable pub plan_of_root : Members → Option Plan
-plan_of_root root = if key_count root == 5 then plan_of_parts root else None
+abbrev pub known : ℤ → Result Version ScenarioFault
+known (pos n) = if n == 1 then Ok versions.One else if n == 2 then Ok versions.Two else Err fault.Version
+known (negsuc n) = Err fault.Version
 
--- the plan of a text, or none where it isn't of the form that is built so far
-unfoldable pub plan_of : List ℕ → Option Plan
-plan_of bytes = document_of bytes >>= plan_of_root
+-- a version that is known
+abbrev pub known_version : Kind Version
+known_version path d = number path d >>= known
 
--- a worked scenario: an agent that counts in a variable
-abbrev pub worked_scenario : List ℕ
-worked_scenario =
-    codes "version = 1\nhorizon = 2\n[[clp]]\nname = \"root\"\n[[class]]\nname = \"cell\"\n[[class.var]]\nname = \"c0\"\nat = \"root\"\n" ++
-    codes "[[agent]]\nname = \"ant\"\nhome = \"root\"\nrule = \"\"\"\nread a = c0\nset c0 = (a.x + 1), 0\n\"\"\"\n"
+abbrev pub version : Field Version
+version = required (codes "version") known_version
 
-abbrev pub worked_plan : Plan
-worked_plan = plan_from 2 (codes "root") (codes "cell") (codes "c0") (codes "ant") worked_program
+unfoldable pub clp_form : Form ClpPart
+clp_form = made_by clp_part
+    ◃ required (codes "name") text
+    ◃ default (codes "parent") (optional text) None
+
+unfoldable pub var_form : Form VarPart
+var_form = made_by var_part
+    ◃ required (codes "name") text
+    ◃ required (codes "at") text
+    ◃ default (codes "x") number (pos 0)
+    ◃ default (codes "y") number (pos 0)
+
+unfoldable pub class_form : Form ClassPart
+class_form = made_by class_part
+    ◃ required (codes "name") text
+    ◃ default (codes "var") (tables var_form) []
+
+unfoldable pub agent_form : Form AgentText
+agent_form = made_by agent_text
+    ◃ required (codes "name") text
+    ◃ required (codes "home") text
+    ◃ default (codes "start") count 0
+    ◃ required (codes "rule") text
+
+unfoldable pub root_form : Form Draft
+root_form = made_by draft
+    ◃ version
+    ◃ required (codes "horizon") count
+    ◃ default (codes "move_after") count 0
+    ◃ default (codes "clp") (tables clp_form) []
+    ◃ default (codes "class") (tables class_form) []
+    ◃ default (codes "agent") (tables agent_form) []
+
+-- the version is looked at before the walk
+unfoldable pub draft_of_root : Members → Result Draft ScenarioFault
+draft_of_root root = field_at version [] root >>= λ _. walk root_form [] root
+
+abbrev pub draft_of_document : Option Members → Result Draft ScenarioFault
+draft_of_document None = Err fault.NotToml
+draft_of_document (Some root) = draft_of_root root
+
+-- what a text says, each rule still a text
+unfoldable pub draft_of : List ℕ → Result Draft ScenarioFault
+draft_of bytes = if is_utf8 bytes then draft_of_document (parse_document bytes) else Err fault.NotToml
+
+-- the classes with their names, the first of them from that variable on
+abbrev pub named_rows : ℕ → List ClassPart → List (List ℕ × ClassRow)
+named_rows first [] = []
+named_rows first (c ∷ cs) = (c.name, record { first = first; count = length c.vars }) ∷ named_rows (first + length c.vars) cs
+
+abbrev pub var_names : List ClassPart → List (List ℕ)
+var_names classes = map (λ (v : VarPart). v.name) (all_vars classes)
+
+-- what the names in rules stand for: the classes in order, and the variables through all classes
+abbrev pub table_of : List ClassPart → Table
+table_of classes = record { classes = named_rows 0 classes; vars = var_names classes }
+
+abbrev pub with_rule : ℕ → AgentText → Result Program RuleFault → Result AgentPart ScenarioFault
+with_rule i agent (Ok program) = Ok (record { name = agent.name; home = agent.home; start = agent.start; program = program })
+with_rule i agent (Err f) = Err (fault.Rule i f)
+
+-- the agent of number i with its rule
+abbrev pub agent_part : Table → ℕ → ℕ → AgentText → Result AgentPart ScenarioFault
+agent_part names version i agent = with_rule i agent (parsed names version agent.rule)
+
+-- the agents from number i on with their rules
+unfoldable pub agent_parts : Table → ℕ → ℕ → List AgentText → Result (List AgentPart) ScenarioFault
+agent_parts names version i [] = Ok []
+agent_parts names version i (agent ∷ agents) = do
+  part ← agent_part names version i agent
+  parts ← agent_parts names version (i + 1) agents
+  Ok (part ∷ parts)
+
+abbrev pub with_agents : Draft → List AgentPart → PlanParts
+with_agents d agents =
+    record { horizon = d.horizon; move_after = d.move_after; clps = d.clps; classes = d.classes; agents = agents }
+
+-- the parts of a plan
+unfoldable pub parts_of : Draft → Result PlanParts ScenarioFault
+parts_of d = agent_parts (table_of d.classes) (version_number d.version) 0 d.agents >>= λ agents. Ok (with_agents d agents)
+
+abbrev pub plan_or : Result Plan PlanFault → Result Plan ScenarioFault
+plan_or (Ok plan) = Ok plan
+plan_or (Err f) = Err (fault.Plan f)
+
+-- The plan of a text, or its first refusal: that of the document, of the rules in the order of the agents, of the plan.
+unfoldable pub plan_of : List ℕ → Result Plan ScenarioFault
+plan_of bytes = do
+  draft ← draft_of bytes
+  parts ← parts_of draft
+  plan_or (plans.plan_of parts)

@@ -1,14 +1,18 @@
 //! Scenarios, from their texts.
 #![tactic(auto)]
 
-mod documents;
-mod rule;
+mod document;
+mod draft;
+mod fault;
+mod fields;
+mod laws;
+mod place;
+mod rules;
 mod scenario;
+mod tables;
 #[cfg(test)]
 mod tests;
 
-pub use rule::{
-    expressions_are_spelled, expressions_read_again, lines_are_pieces, some_rules, some_tokens,
-    statements_read_again,
-};
-pub use scenario::{ScenarioFault, a_worked_scenario, read};
+pub use fault::ScenarioFault;
+pub use laws::worked_texts;
+pub use scenario::read;

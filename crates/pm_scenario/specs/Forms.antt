@@ -1,0 +1,150 @@
+-- How a table of a document is read by a list of its keys, or what it is refused for first.
+use Rattle.std.specs.Prelude.{◌≡◌, ℕ, ◌+◌, Bool, true, false, if◌then◌else◌, List, [], ◌∷◌, ◌++◌, Option, Some, None, Result, Ok, Err, ℤ, pos, negsuc, codes, decimal}
+use Rattle.std.specs.Str.{bytes_eq}
+use Rattle.std.specs.List.{list_any}
+use Rattle.toml.specs.Data.{Data, string, integer, array, table, Items, no_items, item, Members, no_members, member, get_member, as_str, as_integer}
+use Rattle.pm_scenario.specs.declared.fault.ScenarioFault.{ScenarioFault}
+use Rattle.pm_scenario.specs.declared.fault.ScenarioFault.TheVariants as fault
+
+infixl 10 ◌>>=◌
+abbrev pub ◌>>=◌ : {A B : Type 0} → Result A ScenarioFault → (A → Result B ScenarioFault) → Result B ScenarioFault
+(Ok x) >>= f = f x
+(Err e) >>= f = Err e
+
+-- what was returned is what the definition gives, unless memory ran out
+abbrev pub Fails : {A : Type 0} → ScenarioFault → Result A ScenarioFault → Type 0
+Fails fault.Memory read = Unit {0}
+Fails f read = read ≡ Err f
+
+abbrev pub Gives : {A : Type 0} → Result A ScenarioFault → Result A ScenarioFault → Type 0
+Gives (Ok x) read = read ≡ Ok x
+Gives (Err f) read = Fails f read
+
+-- the keys that lead to a value, and the indices, as `class[0].var[2].x`
+abbrev pub Path : Type 0
+Path = List ℕ
+
+-- an element of the array at the path
+abbrev pub indexed : Path → ℕ → Path
+indexed path i = path ++ codes "[" ++ decimal i ++ codes "]"
+
+-- what stands before the keys of the table at the path
+abbrev pub inside : Path → Path
+inside path = path ++ codes "."
+
+-- a kind of values: the value that a path has, where it is of this kind
+abbrev pub Kind : Type 0 → Type 0
+Kind A = Path → Data → Result A ScenarioFault
+
+abbrev pub of_kind : {A : Type 0} → Path → Option A → Result A ScenarioFault
+of_kind path (Some x) = Ok x
+of_kind path None = Err (fault.Kind path)
+
+abbrev pub text : Kind (List ℕ)
+text path d = of_kind path (as_str d)
+
+abbrev pub number : Kind ℤ
+number path d = of_kind path (as_integer d)
+
+-- the number that an integer is, where it isn't negative
+abbrev pub as_count : Data → Option ℕ
+as_count (integer (pos n)) = Some n
+as_count _ = None
+
+abbrev pub count : Kind ℕ
+count path d = of_kind path (as_count d)
+
+-- a value that may be absent
+abbrev pub optional : {A : Type 0} → Kind A → Kind (Option A)
+optional kind path d = kind path d >>= λ x. Ok (Some x)
+
+-- a key that is listed, the kind of its value, and what stands for it where it is absent: nothing where it is required
+pub record Field (A : Type 0) : Type 0 where
+  pub key : List ℕ
+  pub kind : Kind A
+  pub absent : Option A
+
+abbrev pub or_missing : {A : Type 0} → Path → Option A → Result A ScenarioFault
+or_missing path (Some x) = Ok x
+or_missing path None = Err (fault.Missing path)
+
+abbrev pub value_of : {A : Type 0} → Field A → Path → Option Data → Result A ScenarioFault
+value_of field path (Some d) = field.kind path d
+value_of field path None = or_missing path field.absent
+
+-- what a listed key has in a table whose keys stand behind this prefix
+abbrev pub field_at : {A : Type 0} → Field A → Path → Members → Result A ScenarioFault
+field_at field prefix ms = value_of field (prefix ++ field.key) (get_member field.key ms)
+
+-- the listed keys of a table in order, and what is made of their values
+pub record Form (A : Type 0) : Type 0 where
+  pub keys : List (List ℕ)
+  pub values : Path → Members → Result A ScenarioFault
+
+-- no keys
+abbrev pub made_by : {A : Type 0} → A → Form A
+made_by x = record { keys = []; values = λ prefix ms. Ok x }
+
+-- one more key: its value is taken after those before it
+infixl 9 ◌◃◌
+abbrev pub ◌◃◌ : {A B : Type 0} → Form (A → B) → Field A → Form B
+form ◃ field = record {
+  keys = form.keys ++ field.key ∷ [];
+  values = λ prefix ms. form.values prefix ms >>= λ f. field_at field prefix ms >>= λ x. Ok (f x);
+}
+
+abbrev pub is_listed : List (List ℕ) → List ℕ → Bool
+is_listed keys k = list_any (λ l. bytes_eq l k) keys
+
+-- the first key that isn't listed: the keys of a table ascend by their bytes, so it is the least
+abbrev pub strange : List (List ℕ) → Members → Option (List ℕ)
+strange keys no_members = None
+strange keys (member k d ms) = if is_listed keys k then strange keys ms else Some k
+
+abbrev pub refuse_strange : Path → Option (List ℕ) → Result (Unit {0}) ScenarioFault
+refuse_strange prefix None = Ok tt
+refuse_strange prefix (Some k) = Err (fault.Strange (prefix ++ k))
+
+unfoldable pub no_strange : Path → List (List ℕ) → Members → Result (Unit {0}) ScenarioFault
+no_strange prefix keys ms = refuse_strange prefix (strange keys ms)
+
+-- The walk over a table whose keys stand behind this prefix: first the keys that aren't listed, then each listed key
+-- in order.
+abbrev pub walk : {A : Type 0} → Form A → Path → Members → Result A ScenarioFault
+walk form prefix ms = no_strange prefix form.keys ms >>= λ _. form.values prefix ms
+
+abbrev pub is_table : Data → Bool
+is_table (table ms) = true
+is_table _ = false
+
+-- the elements from number i on are tables
+unfoldable pub all_tables : Path → ℕ → Items → Result (Unit {0}) ScenarioFault
+all_tables path i no_items = Ok tt
+all_tables path i (item d ds) = if is_table d then all_tables path (i + 1) ds else Err (fault.Kind (indexed path i))
+
+abbrev pub element : {A : Type 0} → Form A → Kind A
+element form path (table ms) = walk form (inside path) ms
+element form path _ = Err (fault.Kind path)
+
+-- the elements from number i on, each walked before the next
+unfoldable pub elements : {A : Type 0} → Form A → Path → ℕ → Items → Result (List A) ScenarioFault
+elements form path i no_items = Ok []
+elements form path i (item d ds) = do
+  x ← element form (indexed path i) d
+  xs ← elements form path (i + 1) ds
+  Ok (x ∷ xs)
+
+-- an array of tables: an element that is no table is told before any element is walked
+unfoldable pub tables : {A : Type 0} → Form A → Kind (List A)
+tables form path (array ds) = all_tables path 0 ds >>= λ _. elements form path 0 ds
+tables form path _ = Err (fault.Kind path)
+
+-- a list in front of what is read
+abbrev pub with_front : {A : Type 0} → List A → Result (List A) ScenarioFault → Result (List A) ScenarioFault
+with_front front read = read >>= λ more. Ok (front ++ more)
+
+abbrev pub required : {A : Type 0} → List ℕ → Kind A → Field A
+required key kind = record { key = key; kind = kind; absent = None }
+
+abbrev pub default : {A : Type 0} → List ℕ → Kind A → A → Field A
+default key kind x = record { key = key; kind = kind; absent = Some x }

@@ -1,0 +1,18 @@
+ghost use Rattle.std.specs.Prelude.{◌≡◌, Ok, Err, codes};
+ghost use Rattle.pm_scenario.specs.Samples.{worked_scenario, worked_plan, later_version, two_strange_keys, table_and_number, empty_table_and_number, number_as_text};
+ghost use Rattle.pm_scenario.specs.Scenarios.{plan_of};
+ghost use Rattle.pm_scenario.specs.declared.fault.ScenarioFault.TheVariants as fault;
+
+use pm_rules::some_texts;
+
+/// Worked texts, computed from the definitions: a scenario, and the first refusals of some that are none.
+pub fn worked_texts()
+    ensures worked { plan_of worked_scenario ≡ Ok worked_plan }
+    ensures version { plan_of later_version ≡ Err fault.Version }
+    ensures strange { plan_of two_strange_keys ≡ Err (fault.Strange (codes "best")) }
+    ensures element { plan_of table_and_number ≡ Err (fault.Kind (codes "clp[1]")) }
+    ensures in_order { plan_of empty_table_and_number ≡ Err (fault.Missing (codes "clp[0].name")) }
+    ensures path { plan_of number_as_text ≡ Err (fault.Kind (codes "class[0].var[0].x")) }
+{
+    some_texts();
+}
