@@ -1,10 +1,10 @@
 -- Which endings come of an input, where the devices do not fail.
-use Rattle.std.proofs.Common.{◌≡◌, ◌≢◌, ◌⊎◌, inl, inr, ℕ, ◌<◌, ◌≤◌, List, length, Option, Some, None, IfSome, refl, sym, ap, ◌∙◌, arith}
-use Rattle.std.proofs.lemmas.Option.{same_Some}
+use Rattle.std.proofs.Common.{◌≡◌, ◌≢◌, ◌⊎◌, inl, inr, ℕ, ◌≤◌, List, length, Option, Some, None, IfSome, Result, Ok, Err, refl, sym, ap, ◌∙◌, arith}
 use Rattle.pm_plan.specs.declared.plan.Plan.{Plan}
-use Rattle.pm_model.specs.Runs.{sequential_run}
-use Rattle.pm_scenario.specs.Scenarios.{plan_of}
 use Rattle.pm_top.specs.Headline.{IsAccepted, IsRefused, IsTooLong, IsWithin, PrintsSpent}
+use Rattle.pm_scenario.specs.declared.fault.ScenarioFault.{ScenarioFault}
+use Rattle.pm_top.specs.Outputs.{steps}
+use Rattle.pm_top.specs.declared.mode.Mode.{Mode}
 use Rattle.pm_top.specs.declared.outcome.Ending.{Ending}
 use Rattle.pm_top.specs.declared.outcome.Ending.TheVariants as ending
 
@@ -15,32 +15,40 @@ Accepts e = (e ≡ ending.Done) ⊎ ((e ≡ ending.BudgetSpent) ⊎ (e ≡ endin
 -- what a run of the words `seq` says of its ending
 pub record Told (e : Ending) (held : Option (List ℕ)) : Type 0 where
   pub words : e ≢ ending.Words
-  pub refused : e ≡ ending.Refused → IfSome held IsRefused
+  pub refused : (f : ScenarioFault) → e ≡ ending.Refused f → IfSome held (IsRefused f)
   pub too_long : e ≡ ending.TooLong → IfSome held IsTooLong
   pub accepted : Accepts e → IfSome held IsAccepted
 
-not-both : (b : List ℕ) → IsAccepted b → IsRefused b → ⊥
-not-both b a r = cc (sym a.is ∙ r.no_plan)
+ok-err : (p : Plan) (f : ScenarioFault) → Path (Result Plan ScenarioFault) (Ok p) (Err f) → ⊥
+ok-err p f e = cc
+
+not-both : (b : List ℕ) (f : ScenarioFault) → IsAccepted b → IsRefused f b → ⊥
+not-both b f a r = ok-err a.plan f (sym a.is ∙ r.no_plan)
+
+
 
 not-long : (b : List ℕ) → length b ≤ 4194304 → IsTooLong b → ⊥
 not-long b short long = omega (arith, short, long)
 
-pub refuses : (e : Ending) (held : Option (List ℕ)) → Told e held → e ≢ ending.ReadFault → e ≢ ending.Memory → IfSome held (λ b. IsRefused b → e ≡ ending.Refused)
+same-fault : (f g : ScenarioFault) → Path (Result Plan ScenarioFault) (Err f) (Err g) → f ≡ g
+same-fault f g e = cc
+
+pub refuses : (e : Ending) (held : Option (List ℕ)) → Told e held → e ≢ ending.ReadFault → e ≢ ending.Memory → IfSome held (λ b. (f : ScenarioFault) → IsRefused f b → e ≡ ending.Refused f)
 refuses e None t read memory = tt
-refuses ending.Done (Some b) t read memory = λ r. absurd (not-both b (t.accepted (inl refl)) r)
+refuses ending.Done (Some b) t read memory = λ f r. absurd (not-both b f (t.accepted (inl refl)) r)
 refuses ending.Words (Some b) t read memory = absurd (t.words refl)
-refuses ending.Refused (Some b) t read memory = λ r. refl
-refuses ending.TooLong (Some b) t read memory = λ r. absurd (not-long b r.short (t.too_long refl))
-refuses ending.BudgetSpent (Some b) t read memory = λ r. absurd (not-both b (t.accepted (inr (inl refl))) r)
+refuses (ending.Refused g) (Some b) t read memory = λ f r. ap (λ (h : ScenarioFault). ending.Refused h) (same-fault g f (sym (t.refused g refl).no_plan ∙ r.no_plan))
+refuses ending.TooLong (Some b) t read memory = λ f r. absurd (not-long b r.short (t.too_long refl))
+refuses ending.BudgetSpent (Some b) t read memory = λ f r. absurd (not-both b f (t.accepted (inr (inl refl))) r)
 refuses ending.ReadFault (Some b) t read memory = absurd (read refl)
-refuses ending.WriteFault (Some b) t read memory = λ r. absurd (not-both b (t.accepted (inr (inr refl))) r)
+refuses ending.WriteFault (Some b) t read memory = λ f r. absurd (not-both b f (t.accepted (inr (inr refl))) r)
 refuses ending.Memory (Some b) t read memory = absurd (memory refl)
 
 pub limits : (e : Ending) (held : Option (List ℕ)) → Told e held → e ≢ ending.ReadFault → e ≢ ending.Memory → IfSome held (λ b. IsTooLong b → e ≡ ending.TooLong)
 limits e None t read memory = tt
 limits ending.Done (Some b) t read memory = λ long. absurd (not-long b (t.accepted (inl refl)).short long)
 limits ending.Words (Some b) t read memory = absurd (t.words refl)
-limits ending.Refused (Some b) t read memory = λ long. absurd (not-long b (t.refused refl).short long)
+limits (ending.Refused f) (Some b) t read memory = λ long. absurd (not-long b (t.refused f refl).short long)
 limits ending.TooLong (Some b) t read memory = λ long. refl
 limits ending.BudgetSpent (Some b) t read memory = λ long. absurd (not-long b (t.accepted (inr (inl refl))).short long)
 limits ending.ReadFault (Some b) t read memory = absurd (read refl)
@@ -52,30 +60,33 @@ pub completes : (e : Ending) (held : Option (List ℕ)) → Told e held → e �
 completes e None t read write = tt
 completes ending.Done (Some b) t read write = λ a. inl refl
 completes ending.Words (Some b) t read write = absurd (t.words refl)
-completes ending.Refused (Some b) t read write = λ a. absurd (not-both b a (t.refused refl))
+completes (ending.Refused f) (Some b) t read write = λ a. absurd (not-both b f a (t.refused f refl))
 completes ending.TooLong (Some b) t read write = λ a. absurd (not-long b a.short (t.too_long refl))
 completes ending.BudgetSpent (Some b) t read write = λ a. inr (inl refl)
 completes ending.ReadFault (Some b) t read write = absurd (read refl)
 completes ending.WriteFault (Some b) t read write = absurd (write refl)
 completes ending.Memory (Some b) t read write = λ a. inr (inr refl)
 
+same-plan : (p q : Plan) → Path (Result Plan ScenarioFault) (Ok p) (Ok q) → p ≡ q
+same-plan p q e = cc
+
 -- a budget that is enough isn't spent
-spent-not : (budget : ℕ) (b : List ℕ) (old new : Option (List ℕ)) → PrintsSpent budget (Some b) old new → IsWithin budget b → ⊥
-spent-not budget b old new s w =
-    let same : s.0 ≡ w.scenario.plan = same_Some _ _ (sym s.1 ∙ w.scenario.is) in
-    omega (arith, s.2, w.few, ap (λ (p : Plan). length (sequential_run p)) same)
+spent-not : (m : Mode) (budget : ℕ) (b : List ℕ) (old new : Option (List ℕ)) → PrintsSpent m budget (Some b) old new → IsWithin m budget b → ⊥
+spent-not m budget b old new s w =
+    let same : s.0 ≡ w.scenario.plan = same-plan s.0 w.scenario.plan (sym s.1 ∙ w.scenario.is) in
+    omega (arith, s.2, w.few, ap (λ (p : Plan). steps m p) same)
 
 or-done : (e : Ending) → (e ≡ ending.BudgetSpent → ⊥) → (e ≡ ending.Done) ⊎ ((e ≡ ending.BudgetSpent) ⊎ (e ≡ ending.Memory)) → (e ≡ ending.Done) ⊎ (e ≡ ending.Memory)
 or-done e spent (inl h) = inl h
 or-done e spent (inr (inl h)) = absurd (spent h)
 or-done e spent (inr (inr h)) = inr h
 
-pub within : (e : Ending) (budget : ℕ) (held old new : Option (List ℕ)) → Told e held → e ≢ ending.ReadFault → e ≢ ending.WriteFault
-    → (e ≡ ending.BudgetSpent → PrintsSpent budget held old new)
-    → IfSome held (λ b. IsWithin budget b → (e ≡ ending.Done) ⊎ (e ≡ ending.Memory))
-within e budget None old new t read write spent = tt
-within e budget (Some b) old new t read write spent =
-    λ w. or-done e (λ h. spent-not budget b old new (spent h) w) (completes e (Some b) t read write w.scenario)
+pub within : (e : Ending) (m : Mode) (budget : ℕ) (held old new : Option (List ℕ)) → Told e held → e ≢ ending.ReadFault → e ≢ ending.WriteFault
+    → (e ≡ ending.BudgetSpent → PrintsSpent m budget held old new)
+    → IfSome held (λ b. IsWithin m budget b → (e ≡ ending.Done) ⊎ (e ≡ ending.Memory))
+within e m budget None old new t read write spent = tt
+within e m budget (Some b) old new t read write spent =
+    λ w. or-done e (λ h. spent-not m budget b old new (spent h) w) (completes e (Some b) t read write w.scenario)
 
 -- words that are not understood are no scenario's
 pub words-not : Accepts ending.Words → ⊥

@@ -1,11 +1,8 @@
--- What a write of a line leaves.
-use Rattle.std.proofs.Common.{ℕ, inl, inr, List, Option, Result, Ok, Err, OnOk, OnErr}
-use Rattle.std.specs.Io.KnownBytes.{Appends}
-use Rattle.pm_io.specs.Causes.{AppendsPart}
-use Rattle.pm_io.proofs.Known.{prefix-part}
+-- What an offer of a line leaves.
+use Rattle.std.proofs.Common.{inl, inr, List, ℕ, Result, Ok, Err}
 use Rattle.pm_top.specs.Headline.{Offers}
+use Rattle.pm_top.specs.Speech.{SinkSight, Speaks}
 
-pub offered : {X E : Type 0} (r : Result X E) (old new : Option (List ℕ)) (line : List ℕ) (Failed : Type 0) → OnOk r (Appends old new line)
-    → OnErr r (AppendsPart old new line) → OnErr r Failed → Offers old new Failed line
-offered (Ok x) old new line Failed a p f = inl a
-offered (Err e) old new line Failed a p f = inr (prefix-part old new line p, f)
+pub offered : {X E : Type 0} (r : Result X E) (old new : SinkSight) (line : List ℕ) → Speaks r old new line → Offers old new line
+offered (Ok x) old new line s = inl s.all
+offered (Err e) old new line s = inr (s.part, s.cause)

@@ -1,24 +1,27 @@
 -- What is printed of a scenario that the input held.
-use Rattle.std.proofs.Common.{◌≡◌, ℕ, ◌≤◌, List, length, Option, Some, None, IfSome, sym, ap, subst, arith, length-append}
+use Rattle.std.proofs.Common.{◌≡◌, ℕ, ◌≤◌, List, length, Option, Some, None, IfSome, Result, Ok, Err, IfOk, sym, ap, subst, arith, length-append}
 use Rattle.pm_io.specs.Causes.{AppendsPrefix}
 use Rattle.pm_io.proofs.Known.{prefix-none, consumes-all}
 use Rattle.pm_plan.specs.declared.plan.Plan.{Plan}
 use Rattle.pm_scenario.specs.Scenarios.{plan_of}
-use Rattle.pm_model.specs.Traces.{trace}
+use Rattle.pm_scenario.specs.declared.fault.ScenarioFault.{ScenarioFault}
+use Rattle.pm_top.specs.Outputs.{output}
+use Rattle.pm_top.specs.declared.mode.Mode.{Mode}
 use Rattle.pm_top.specs.Headline.{PrintsPrefix, IsAccepted, IsRefused, IsTooLong}
 use Rattle.pm_top.specs.Readings.{IsReadWhole, IsReadPast}
 
-of-plan : (o : Option Plan) (old : Option (List ℕ)) → IfSome o (λ p. AppendsPrefix old old (trace p))
-of-plan None old = tt
-of-plan (Some p) old = prefix-none old (trace p)
+of-plan : (m : Mode) (o : Result Plan ScenarioFault) (old : Option (List ℕ)) → IfOk o (λ p. AppendsPrefix old old (output m p))
+of-plan m (Err f) old = tt
+of-plan m (Ok p) old = prefix-none old (output m p)
 
--- nothing is a prefix of any trace
-pub prints-none : (held old : Option (List ℕ)) → PrintsPrefix held old old
-prints-none None old = tt
-prints-none (Some b) old = of-plan (plan_of b) old
+-- nothing is a prefix of any output
+pub prints-none : (m : Mode) (held old : Option (List ℕ)) → PrintsPrefix m held old old
+prints-none m None old = tt
+prints-none m (Some b) old = of-plan m (plan_of b) old
 
-pub prints-prefix : (b : List ℕ) (p : Plan) (old new : Option (List ℕ)) → plan_of b ≡ Some p → AppendsPrefix old new (trace p) → PrintsPrefix (Some b) old new
-prints-prefix b p old new e a = rw e a
+pub prints-prefix : (m : Mode) (b : List ℕ) (p : Plan) (old new : Option (List ℕ)) → plan_of b ≡ Ok p → AppendsPrefix old new (output m p) →
+    PrintsPrefix m (Some b) old new
+prints-prefix m b p old new e a = rw e a
 
 -- a fact of the bytes that were read is a fact of those that the input held
 pub of-held : (P : List ℕ → Type 0) (held rest : Option (List ℕ)) (xs : List ℕ) → IsReadWhole held rest xs → P xs → IfSome held P
@@ -31,8 +34,8 @@ held-too-long None rest r = tt
 held-too-long (Some b) None r = absurd r.1
 held-too-long (Some b) (Some more) r = omega (arith, ap length r.1, r.2, length-append r.0 more)
 
-pub refused-is : (xs : List ℕ) → length xs ≤ 4194304 → plan_of xs ≡ None → IsRefused xs
-refused-is xs few none = record { short = few; no_plan = none }
+pub refused-is : (f : ScenarioFault) (xs : List ℕ) → length xs ≤ 4194304 → plan_of xs ≡ Err f → IsRefused f xs
+refused-is f xs few none = record { short = few; no_plan = none }
 
-pub accepted-is : (xs : List ℕ) (p : Plan) → length xs ≤ 4194304 → plan_of xs ≡ Some p → IsAccepted xs
+pub accepted-is : (xs : List ℕ) (p : Plan) → length xs ≤ 4194304 → plan_of xs ≡ Ok p → IsAccepted xs
 accepted-is xs p few is = record { short = few; plan = p; is = is }

@@ -1,5 +1,6 @@
 -- How a call of the program may end.
-use Rattle.std.specs.Prelude.{ℕ, List, ◌++◌, codes}
+use Rattle.std.specs.Prelude.{ℕ, List, [], ◌++◌, codes}
+use Rattle.pm_top.specs.Refusals.{refusal}
 use Rattle.pm_top.specs.declared.outcome.Ending.{Ending}
 use Rattle.pm_top.specs.declared.outcome.Ending.TheVariants as ending
 
@@ -7,24 +8,20 @@ use Rattle.pm_top.specs.declared.outcome.Ending.TheVariants as ending
 abbrev pub status_of : Ending → ℕ
 status_of ending.Done = 0
 status_of ending.Words = 1
-status_of ending.Refused = 2
+status_of (ending.Refused f) = 2
 status_of ending.TooLong = 2
 status_of ending.BudgetSpent = 3
 status_of ending.ReadFault = 4
 status_of ending.WriteFault = 5
 status_of ending.Memory = 6
 
--- what is said of it
-abbrev pub reason : Ending → List ℕ
-reason ending.Done = codes "done"
-reason ending.Words = codes "the words are not understood"
-reason ending.Refused = codes "scenario: this form is not built yet"
-reason ending.TooLong = codes "the scenario is longer than 4194304 bytes"
-reason ending.BudgetSpent = codes "the budget is spent"
-reason ending.ReadFault = codes "the input cannot be read"
-reason ending.WriteFault = codes "the output cannot be written"
-reason ending.Memory = codes "out of memory"
-
--- `pdesmas: REASON`
+-- the line that is said of it
 abbrev pub error_line : Ending → List ℕ
-error_line e = codes "pdesmas: " ++ reason e ++ codes "\n"
+error_line ending.Done = []
+error_line ending.Words = codes "pdesmas: the words are not understood\n"
+error_line (ending.Refused f) = codes "pdesmas: scenario: " ++ refusal f
+error_line ending.TooLong = codes "pdesmas: the scenario is longer than 4194304 bytes\n"
+error_line ending.BudgetSpent = codes "pdesmas: the budget is spent\n"
+error_line ending.ReadFault = codes "pdesmas: the input cannot be read\n"
+error_line ending.WriteFault = codes "pdesmas: the output cannot be written\n"
+error_line ending.Memory = codes "pdesmas: out of memory\n"

@@ -1,3 +1,6 @@
 pub mod Endings
 pub mod Headline
+pub mod Outputs
 pub mod Readings
+pub mod Refusals
+pub mod Speech

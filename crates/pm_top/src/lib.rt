@@ -1,9 +1,12 @@
 //! All that the program does, over any source and sinks.
 #![tactic(auto)]
 
+mod check;
+mod mode;
 mod outcome;
 mod program;
 mod reading;
+mod refusals;
 mod run;
 #[cfg(test)]
 mod tests;

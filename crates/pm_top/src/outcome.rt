@@ -1,19 +1,21 @@
-ghost use Rattle.std.specs.Prelude.{◌≡◌, ◌≢◌, ◌⊎◌};
-ghost use Rattle.pm_io.specs.Causes.{Rose};
+ghost use Rattle.std.specs.Prelude.{◌≡◌, ◌≢◌};
 ghost use Rattle.pm_top.specs.Endings.{error_line, status_of};
 ghost use Rattle.pm_top.specs.Headline.{Offers};
+ghost use Rattle.pm_top.specs.Speech.{Speaks};
 
-use pm_io::{Sink, write_whole};
+use crate::refusals::{say, say_refusal};
+use pm_io::{Failed, Sink};
+use pm_scenario::ScenarioFault;
 
 /// How a call of the program ended.
-#[derive(Clone, Copy, Debug, PartialEq, Eq)]
+#[derive(Debug, Drop)]
 pub enum Ending {
     /// The whole output was written.
     Done,
     /// The words are no command.
     Words,
-    /// The input is no scenario of the form that is built so far.
-    Refused,
+    /// The input is no scenario.
+    Refused(ScenarioFault),
     /// The input is longer than a scenario may be.
     TooLong,
     /// The budget of steps is spent, and the run goes on.
@@ -27,13 +29,13 @@ pub enum Ending {
 }
 
 /// The status that the program ends with.
-pub fn status_of(ending: Ending) -> u8
-    ensures { result ≡ status_of ending }
+pub fn status_of(ending: &Ending) -> u8
+    ensures { result ≡ status_of ending.now }
 {
     match ending {
         Ending::Done => 0,
         Ending::Words => 1,
-        Ending::Refused | Ending::TooLong => 2,
+        Ending::Refused(_) | Ending::TooLong => 2,
         Ending::BudgetSpent => 3,
         Ending::ReadFault => 4,
         Ending::WriteFault => 5,
@@ -41,30 +43,33 @@ pub fn status_of(ending: Ending) -> u8
     }
 }
 
-/// What is said of an ending.
-fn error_line(ending: Ending) -> &'static str
-    ensures { result.now ≡ error_line ending }
+/// Says the line of an ending.
+fn say_ending<E: Sink>(err: &mut E, ending: &Ending) -> Result<(), Failed>
+    ensures said { ending.now ≢ Ending.Done → Speaks result
+        (record { holds = E.holds err.old; faults = E.faults err.old; stalls = E.stalls err.old })
+        (record { holds = E.holds err.new; faults = E.faults err.new; stalls = E.stalls err.new })
+        (error_line ending.now) }
+    ensures silent { ending.now ≡ Ending.Done → err.new ≡ err.old }
 {
     match ending {
-        Ending::Done => "pdesmas: done\n",
-        Ending::Words => "pdesmas: the words are not understood\n",
-        Ending::Refused => "pdesmas: scenario: this form is not built yet\n",
-        Ending::TooLong => "pdesmas: the scenario is longer than 4194304 bytes\n",
-        Ending::BudgetSpent => "pdesmas: the budget is spent\n",
-        Ending::ReadFault => "pdesmas: the input cannot be read\n",
-        Ending::WriteFault => "pdesmas: the output cannot be written\n",
-        Ending::Memory => "pdesmas: out of memory\n",
+        Ending::Done => Ok(()),
+        Ending::Words => say(err, "pdesmas: the words are not understood\n"),
+        Ending::Refused(fault) => say_refusal(err, fault),
+        Ending::TooLong => say(err, "pdesmas: the scenario is longer than 4194304 bytes\n"),
+        Ending::BudgetSpent => say(err, "pdesmas: the budget is spent\n"),
+        Ending::ReadFault => say(err, "pdesmas: the input cannot be read\n"),
+        Ending::WriteFault => say(err, "pdesmas: the output cannot be written\n"),
+        Ending::Memory => say(err, "pdesmas: out of memory\n"),
     }
 }
 
 /// Offers the line of an ending, but of `Done` nothing. It takes no memory, and that the sink fails changes nothing.
-pub fn offer<E: Sink>(err: &mut E, ending: Ending)
-    ensures silent { ending ≡ Ending.Done → err.new ≡ err.old }
-    ensures told { ending ≢ Ending.Done →
-        Offers (E.holds err.old) (E.holds err.new) (Rose (E.faults err.old) (E.faults err.new)
-        ⊎ Rose (E.stalls err.old) (E.stalls err.new)) (error_line ending) }
+pub fn offer<E: Sink>(err: &mut E, ending: &Ending)
+    ensures silent { ending.now ≡ Ending.Done → err.new ≡ err.old }
+    ensures told { ending.now ≢ Ending.Done → Offers
+        (record { holds = E.holds err.old; faults = E.faults err.old; stalls = E.stalls err.old })
+        (record { holds = E.holds err.new; faults = E.faults err.new; stalls = E.stalls err.new })
+        (error_line ending.now) }
 {
-    if ending != Ending::Done {
-        let _ = write_whole(err, error_line(ending).as_bytes());
-    }
+    let _ = say_ending(err, ending);
 }

@@ -1,18 +1,25 @@
-ghost use Rattle.std.specs.Prelude.{◌≡◌, ◌≢◌, ◌⊎◌, ◌≤◌, [], Some, None, IfSome, length};
-ghost use Rattle.std.specs.Io.KnownBytes.{IsAtEnd};
-ghost use Rattle.pm_io.specs.Causes.{Rose};
-ghost use Rattle.pm_model.specs.Runs.{sequential_run};
+ghost use Rattle.std.specs.Prelude.{◌≡◌, ◌≢◌, ◌⊎◌, ◌≤◌, ◌<◌, [], Some, None, IfSome, Ok, Err, length};
+ghost use Rattle.std.specs.Io.KnownBytes.{Appends, IsAtEnd};
+ghost use Rattle.pm_io.specs.Causes.{AppendsPart, AppendsPrefix, Rose};
+ghost use Rattle.pm_plan.specs.Limits.{IsWithinLimits};
+ghost use Rattle.pm_plan.specs.Plans.{IsValid};
 ghost use Rattle.pm_plan.specs.declared.plan.Plan.{Plan as ThePlan};
 ghost use Rattle.pm_scenario.specs.Scenarios.{plan_of};
+ghost use Rattle.pm_scenario.specs.declared.fault.ScenarioFault.{ScenarioFault as TheFault};
 ghost use Rattle.pm_top.specs.Endings.{status_of};
-ghost use Rattle.pm_top.specs.Headline.{is_seq, EndsRun, IsAccepted, IsRefused, IsServed, IsTooLong, LacksLines, PrintsPrefix, PrintsSpent, PrintsTrace, ReadsAll, WritesNothing};
+ghost use Rattle.pm_top.specs.Headline.{EndsRun, IsAccepted, IsRefused, IsServed, IsTooLong, LacksLines, PrintsAll, PrintsPrefix, PrintsSpent, ReadsAll, WritesNothing};
+ghost use Rattle.pm_top.specs.Outputs.{first_lines, mode_of, output, steps};
 ghost use Rattle.pm_top.specs.Readings.{IsReadPast};
 
+use crate::check::write_check;
+use crate::mode::{Mode, mode_of};
 use crate::outcome::{Ending, offer, status_of};
 use crate::reading::{Unread, read_whole};
 use crate::run::{Ran, write_run};
 use pm_base::{Journal, List};
 use pm_io::{Gate, Sink, Source};
+use pm_plan::Plan;
+use pm_plan::laws::limits_are_kept;
 use pm_scenario::{ScenarioFault, read};
 use std::alloc::Global;
 use std::thread::Threads;
@@ -27,14 +34,8 @@ pub struct Report {
     pub status: u8,
     /// Why it is that status.
     pub ending: Ending,
-    /// The events of a run of the optimistic core, which mode `seq` has none of.
+    /// The events of a run of the optimistic core, of which the modes `seq` and `check` have none.
     pub journal: Journal,
-}
-
-fn is_seq(words: &[String]) -> bool
-    ensures { result ≡ is_seq words.now }
-{
-    words.len() == 1 && words[0].as_str() == "seq"
 }
 
 fn ending_of(ran: Ran) -> Ending
@@ -42,7 +43,7 @@ fn ending_of(ran: Ran) -> Ending
     ensures spent { result ≡ Ending.BudgetSpent → ran ≡ Ran.BudgetSpent }
     ensures fault { result ≡ Ending.WriteFault → ran ≡ Ran.WriteFault }
     ensures ran { EndsRun result }
-    ensures plan { result ≢ Ending.Refused }
+    ensures plan { (f : TheFault) → result ≢ Ending.Refused f }
 {
     match ran {
         Ran::Done => Ending::Done,
@@ -52,41 +53,69 @@ fn ending_of(ran: Ran) -> Ending
     }
 }
 
-/// Writes the trace of a scenario's text.
-fn run_text<K: Sink>(alloc: Global, bytes: &[u8], budget: u64, out: &mut K) -> Ending
+/// Writes what the mode writes of a plan.
+fn write_output<K: Sink>(alloc: Global, mode: Mode, plan: &Plan, budget: u64, out: &mut K) -> Ran
+    requires { IsWithinLimits plan.now }
+    ensures done { result ≡ Ran.Done → Appends (K.holds out.old) (K.holds out.new) (output mode plan.now) }
+    ensures within { result ≡ Ran.Done → steps mode plan.now ≤ budget }
+    ensures spent { result ≡ Ran.BudgetSpent → (budget < steps mode plan.now)
+        × Appends (K.holds out.old) (K.holds out.new) (first_lines budget plan.now) }
+    ensures part { AppendsPrefix (K.holds out.old) (K.holds out.new) (output mode plan.now) }
+    ensures lacks { result ≡ Ran.WriteFault → budget < steps mode plan.now →
+        AppendsPart (K.holds out.old) (K.holds out.new) (first_lines budget plan.now) }
+    ensures cause { result ≡ Ran.WriteFault → Rose (K.faults out.old) (K.faults out.new)
+        ⊎ Rose (K.stalls out.old) (K.stalls out.new) }
+{
+    match mode {
+        Mode::Seq => write_run(alloc, plan, budget, out),
+        Mode::Check => write_check(alloc, plan, out),
+    }
+}
+
+/// Writes what the mode writes of a scenario's text.
+fn run_text<K: Sink>(alloc: Global, mode: Mode, bytes: &[u8], budget: u64, out: &mut K) -> Ending
+    requires few { length bytes.now ≤ 4194304 }
     ensures done { result ≡ Ending.Done →
-        PrintsTrace budget (Some bytes.now) (K.holds out.old) (K.holds out.new) }
+        PrintsAll mode budget (Some bytes.now) (K.holds out.old) (K.holds out.new) }
     ensures spent { result ≡ Ending.BudgetSpent →
-        PrintsSpent budget (Some bytes.now) (K.holds out.old) (K.holds out.new) }
-    ensures part { PrintsPrefix (Some bytes.now) (K.holds out.old) (K.holds out.new) }
+        PrintsSpent mode budget (Some bytes.now) (K.holds out.old) (K.holds out.new) }
+    ensures part { PrintsPrefix mode (Some bytes.now) (K.holds out.old) (K.holds out.new) }
     ensures lacks { result ≡ Ending.WriteFault →
-        LacksLines budget (Some bytes.now) (K.holds out.old) (K.holds out.new) }
-    ensures refused { result ≡ Ending.Refused → (plan_of bytes.now ≡ None) × (out.new ≡ out.old) }
+        LacksLines mode budget (Some bytes.now) (K.holds out.old) (K.holds out.new) }
+    ensures refused { (f : TheFault) → result ≡ Ending.Refused f →
+        (plan_of bytes.now ≡ Err f) × (out.new ≡ out.old) }
     ensures accepted { (result ≡ Ending.Done) ⊎ ((result ≡ Ending.BudgetSpent) ⊎ (result ≡ Ending.WriteFault)) →
-        (p : ThePlan) × (plan_of bytes.now ≡ Some p) }
+        (p : ThePlan) × (plan_of bytes.now ≡ Ok p) }
     ensures fault { result ≡ Ending.WriteFault → Rose (K.faults out.old) (K.faults out.new)
         ⊎ Rose (K.stalls out.old) (K.stalls out.new) }
     ensures ran { EndsRun result }
 {
     let plan = match read(alloc, bytes) {
         Ok(plan) => plan,
-        Err(ScenarioFault::NotBuilt) => return Ending::Refused,
         Err(ScenarioFault::Memory) => return Ending::Memory,
+        Err(fault) => return Ending::Refused(fault),
     };
-    ending_of(write_run(alloc, &plan, budget, out))
+    limits_are_kept(&plan);
+    ending_of(write_output(alloc, mode, &plan, budget, out))
 }
 
-/// Mode `seq`.
-fn run_seq<S: Source, K: Sink>(alloc: Global, budget: u64, input: &mut S, out: &mut K) -> Ending
+/// Reads the input and does what the mode does.
+fn run_mode<S: Source, K: Sink>(
+    alloc: Global,
+    mode: Mode,
+    budget: u64,
+    input: &mut S,
+    out: &mut K,
+) -> Ending
     ensures done { result ≡ Ending.Done →
-        PrintsTrace budget (S.held input.old) (K.holds out.old) (K.holds out.new) }
+        PrintsAll mode budget (S.held input.old) (K.holds out.old) (K.holds out.new) }
     ensures spent { result ≡ Ending.BudgetSpent →
-        PrintsSpent budget (S.held input.old) (K.holds out.old) (K.holds out.new) }
-    ensures part { PrintsPrefix (S.held input.old) (K.holds out.old) (K.holds out.new) }
+        PrintsSpent mode budget (S.held input.old) (K.holds out.old) (K.holds out.new) }
+    ensures part { PrintsPrefix mode (S.held input.old) (K.holds out.old) (K.holds out.new) }
     ensures lacks { result ≡ Ending.WriteFault →
-        LacksLines budget (S.held input.old) (K.holds out.old) (K.holds out.new) }
+        LacksLines mode budget (S.held input.old) (K.holds out.old) (K.holds out.new) }
     ensures nothing { WritesNothing result → out.new ≡ out.old }
-    ensures refused { result ≡ Ending.Refused → IfSome (S.held input.old) IsRefused }
+    ensures refused { (f : TheFault) → result ≡ Ending.Refused f → IfSome (S.held input.old) (IsRefused f) }
     ensures too_long { result ≡ Ending.TooLong → IfSome (S.held input.old) IsTooLong
         × IsReadPast (S.held input.old) (S.held input.new) }
     ensures accepted { (result ≡ Ending.Done) ⊎ ((result ≡ Ending.BudgetSpent) ⊎ (result ≡ Ending.WriteFault)) →
@@ -103,7 +132,7 @@ fn run_seq<S: Source, K: Sink>(alloc: Global, budget: u64, input: &mut S, out: &
         Err(Unread::TooLong) => return Ending::TooLong,
         Err(Unread::Memory) => return Ending::Memory,
     };
-    run_text(alloc, bytes.as_slice(), budget, out)
+    run_text(alloc, mode, bytes.as_slice(), budget, out)
 }
 
 fn report_of(alloc: Global, ending: Ending) -> Report
@@ -112,7 +141,7 @@ fn report_of(alloc: Global, ending: Ending) -> Report
     ensures journal { result.journal ≡ [] }
 {
     Report {
-        status: status_of(ending),
+        status: status_of(&ending),
         ending,
         journal: List::new(alloc),
     }
@@ -129,7 +158,7 @@ pub fn serve<S: Source, K: Sink, E: Sink>(
 ) -> Report
     ensures status { result.status ≡ status_of result.ending }
     ensures served { IsServed (record {
-      seq = is_seq words.now.items;
+      mode = mode_of words.now.items;
       budget = budget;
       ending = result.ending;
       input = record { held = S.held input.old; faults = S.faults input.old };
@@ -144,19 +173,19 @@ pub fn serve<S: Source, K: Sink, E: Sink>(
     ensures silent { result.ending ≡ Ending.Done → err.new ≡ err.old }
     ensures journal { result.journal ≡ [] }
 {
-    if !is_seq(words.as_slice()) {
-        offer(err, Ending::Words);
+    let Some(mode) = mode_of(words.as_slice()) else {
+        offer(err, &Ending::Words);
         return report_of(alloc, Ending::Words);
-    }
-    let ending = run_seq(alloc, budget, input, out);
-    offer(err, ending);
+    };
+    let ending = run_mode(alloc, mode, budget, input, out);
+    offer(err, &ending);
     report_of(alloc, ending)
 }
 
 /// All that the program does. `words` are those after the program's name: the one word `seq`, for the sequential run
-/// of the scenario that `input` holds. Its trace is written to `out`, each line by itself, up to 1,000,000 steps; at
-/// each ending but `Done` the line of that ending is offered to `err`. Nothing asks `gate` and no thread is started in
-/// this mode.
+/// of the scenario that `input` holds, or the one word `check`, for how many parts it has. A run's trace is written to
+/// `out`, each line by itself, up to 1,000,000 steps; at each ending but `Done` the line of that ending is offered to
+/// `err`. Nothing asks `gate` and no thread is started in these modes.
 pub fn top<R: Threads + Sync, S: Source, K: Sink, E: Sink, G: Gate + Sync>(
     rt: &R,
     alloc: Global,
@@ -168,7 +197,7 @@ pub fn top<R: Threads + Sync, S: Source, K: Sink, E: Sink, G: Gate + Sync>(
 ) -> Report
     ensures status { result.status ≡ status_of result.ending }
     ensures served { IsServed (record {
-      seq = is_seq words.now.items;
+      mode = mode_of words.now.items;
       budget = 1000000;
       ending = result.ending;
       input = record { held = S.held input.old; faults = S.faults input.old };
@@ -198,7 +227,7 @@ pub fn plain<S: Source, K: Sink, E: Sink>(
 ) -> Report
     ensures status { result.status ≡ status_of result.ending }
     ensures served { IsServed (record {
-      seq = is_seq words.now.items;
+      mode = mode_of words.now.items;
       budget = 1000000;
       ending = result.ending;
       input = record { held = S.held input.old; faults = S.faults input.old };

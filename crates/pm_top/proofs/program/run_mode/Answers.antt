@@ -1,14 +1,14 @@
 use Rattle.std.proofs.Common.{Some, subst}
-use Rattle.pm_top.specs.Headline.{EndsRun, IsAccepted, IsRefused, LacksLines, PrintsPrefix, PrintsSpent, PrintsTrace}
+use Rattle.pm_top.specs.Headline.{EndsRun, IsAccepted, IsRefused, LacksLines, PrintsPrefix, PrintsSpent, PrintsAll}
 use Rattle.pm_top.proofs.Endings.{runs-nothing}
 use Rattle.pm_top.proofs.Prints.{accepted-is, held-too-long, of-held, prints-none, refused-is}
-use Rattle.pm_top.proofs.program.run_seq.Goals as goal
+use Rattle.pm_top.proofs.program.run_mode.Goals as goal
 
 pub returns-in-Err-Failed-clause-part : goal.returns-in-Err-Failed-clause-part
-returns-in-Err-Failed-clause-part g c = prints-none (g.S.Source.held c.args.input.now) (g.K.Sink.holds c.args.out.now)
+returns-in-Err-Failed-clause-part g c = prints-none c.args.mode (g.S.Source.held c.args.input.now) (g.K.Sink.holds c.args.out.now)
 
 pub returns-in-Err-TooLong-clause-part : goal.returns-in-Err-TooLong-clause-part
-returns-in-Err-TooLong-clause-part g c = prints-none (g.S.Source.held c.args.input.now) (g.K.Sink.holds c.args.out.now)
+returns-in-Err-TooLong-clause-part g c = prints-none c.args.mode (g.S.Source.held c.args.input.now) (g.K.Sink.holds c.args.out.now)
 
 pub returns-in-Err-TooLong-clause-too_long : goal.returns-in-Err-TooLong-clause-too_long
 returns-in-Err-TooLong-clause-too_long g c =
@@ -16,35 +16,36 @@ returns-in-Err-TooLong-clause-too_long g c =
     λ h. (held-too-long (g.S.Source.held c.args.input.now) (g.S.Source.held c.read_whole.new.input) past, past)
 
 pub returns-in-Err-Memory-clause-part : goal.returns-in-Err-Memory-clause-part
-returns-in-Err-Memory-clause-part g c = prints-none (g.S.Source.held c.args.input.now) (g.K.Sink.holds c.args.out.now)
+returns-in-Err-Memory-clause-part g c = prints-none c.args.mode (g.S.Source.held c.args.input.now) (g.K.Sink.holds c.args.out.now)
 
 pub returns-clause-done : goal.returns-clause-done
 returns-clause-done g c =
-    λ h. of-held (λ b. PrintsTrace c.args.budget (Some b) (g.K.Sink.holds c.args.out.now) (g.K.Sink.holds c.run_text.new.out)) (g.S.Source.held c.args.input.now)
+    λ h. of-held (λ b. PrintsAll c.args.mode c.args.budget (Some b) (g.K.Sink.holds c.args.out.now) (g.K.Sink.holds c.run_text.new.out)) (g.S.Source.held c.args.input.now)
     (g.S.Source.held c.read_whole.new.input) c.in-Ok.bytes.items c.in-Ok.ensures.whole (rw c.as_slice.ensures.value at (c.run_text.ensures.done h))
 
 pub returns-clause-spent : goal.returns-clause-spent
 returns-clause-spent g c =
-    λ h. of-held (λ b. PrintsSpent c.args.budget (Some b) (g.K.Sink.holds c.args.out.now) (g.K.Sink.holds c.run_text.new.out)) (g.S.Source.held c.args.input.now)
+    λ h. of-held (λ b. PrintsSpent c.args.mode c.args.budget (Some b) (g.K.Sink.holds c.args.out.now) (g.K.Sink.holds c.run_text.new.out)) (g.S.Source.held c.args.input.now)
     (g.S.Source.held c.read_whole.new.input) c.in-Ok.bytes.items c.in-Ok.ensures.whole (rw c.as_slice.ensures.value at (c.run_text.ensures.spent h))
 
 pub returns-clause-lacks : goal.returns-clause-lacks
 returns-clause-lacks g c =
-    λ h. of-held (λ b. LacksLines c.args.budget (Some b) (g.K.Sink.holds c.args.out.now) (g.K.Sink.holds c.run_text.new.out)) (g.S.Source.held c.args.input.now)
+    λ h. of-held (λ b. LacksLines c.args.mode c.args.budget (Some b) (g.K.Sink.holds c.args.out.now) (g.K.Sink.holds c.run_text.new.out)) (g.S.Source.held c.args.input.now)
     (g.S.Source.held c.read_whole.new.input) c.in-Ok.bytes.items c.in-Ok.ensures.whole (rw c.as_slice.ensures.value at (c.run_text.ensures.lacks h))
 
 pub returns-clause-part : goal.returns-clause-part
 returns-clause-part g c =
-    of-held (λ b. PrintsPrefix (Some b) (g.K.Sink.holds c.args.out.now) (g.K.Sink.holds c.run_text.new.out)) (g.S.Source.held c.args.input.now)
+    of-held (λ b. PrintsPrefix c.args.mode (Some b) (g.K.Sink.holds c.args.out.now) (g.K.Sink.holds c.run_text.new.out)) (g.S.Source.held c.args.input.now)
     (g.S.Source.held c.read_whole.new.input) c.in-Ok.bytes.items c.in-Ok.ensures.whole (rw c.as_slice.ensures.value at c.run_text.ensures.part)
 
 pub returns-clause-nothing : goal.returns-clause-nothing
-returns-clause-nothing g c = λ n. (c.run_text.ensures.refused (runs-nothing c.run_text.result c.run_text.ensures.ran n)).1
+returns-clause-nothing g c =
+    λ n. let refused = runs-nothing c.run_text.result c.run_text.ensures.ran n in (c.run_text.ensures.refused refused.0 refused.1).1
 
 pub returns-clause-refused : goal.returns-clause-refused
 returns-clause-refused g c =
-    λ h. of-held IsRefused (g.S.Source.held c.args.input.now) (g.S.Source.held c.read_whole.new.input) c.in-Ok.bytes.items c.in-Ok.ensures.whole
-    (refused-is c.in-Ok.bytes.items c.in-Ok.ensures.whole.few (rw c.as_slice.ensures.value at (c.run_text.ensures.refused h).0))
+    λ f h. of-held (IsRefused f) (g.S.Source.held c.args.input.now) (g.S.Source.held c.read_whole.new.input) c.in-Ok.bytes.items c.in-Ok.ensures.whole
+    (refused-is f c.in-Ok.bytes.items c.in-Ok.ensures.whole.few (rw c.as_slice.ensures.value at (c.run_text.ensures.refused f h).0))
 
 pub returns-clause-too_long : goal.returns-clause-too_long
 returns-clause-too_long g c = λ h. absurd (subst EndsRun h c.run_text.ensures.ran)

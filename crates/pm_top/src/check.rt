@@ -1,0 +1,53 @@
+ghost use Rattle.std.specs.Prelude.{◌≡◌, ◌≢◌, ◌++◌, ◌⊎◌, ◌≤◌, IfOk, OnOk, codes, decimal, string_bytes};
+ghost use Rattle.std.specs.Io.KnownBytes.{Appends};
+ghost use Rattle.pm_io.specs.Causes.{AppendsPrefix, Rose};
+ghost use Rattle.pm_top.specs.Outputs.{check_line};
+
+use crate::run::Ran;
+use itoa::Buffer;
+use pm_base::Memory;
+use pm_io::{Sink, write_whole};
+use pm_plan::Plan;
+use std::alloc::Global;
+
+/// Adds a word and a number.
+fn add(line: &mut String, word: &str, n: usize) -> Result<(), Memory>
+    ensures { OnOk result (string_bytes line.new ≡ string_bytes line.old ++ (word.now ++ decimal n)) }
+{
+    let mut buffer = Buffer::new();
+    line.push_str(word)?;
+    line.push_str(buffer.format(n))?;
+    Ok(())
+}
+
+/// How many parts of each kind a plan has.
+fn check_line(alloc: Global, plan: &Plan) -> Result<String, Memory>
+    ensures { IfOk result (λ s. string_bytes s ≡ check_line plan.now) }
+{
+    let mut line = String::new(alloc);
+    add(&mut line, "ok clps ", plan.clps.len())?;
+    add(&mut line, " classes ", plan.classes.len())?;
+    add(&mut line, " vars ", plan.vars.len())?;
+    add(&mut line, " agents ", plan.agents.len())?;
+    line.push_str("\n")?;
+    Ok(line)
+}
+
+/// Writes the line of a plan's parts.
+pub fn write_check<K: Sink>(alloc: Global, plan: &Plan, out: &mut K) -> Ran
+    ensures done { result ≡ Ran.Done → Appends (K.holds out.old) (K.holds out.new) (check_line plan.now) }
+    ensures part { AppendsPrefix (K.holds out.old) (K.holds out.new) (check_line plan.now) }
+    ensures cause { result ≡ Ran.WriteFault → Rose (K.faults out.old) (K.faults out.new)
+        ⊎ Rose (K.stalls out.old) (K.stalls out.new) }
+    ensures wrote { result ≢ Ran.BudgetSpent }
+    ensures faults { K.faults out.old ≤ K.faults out.new }
+    ensures stalls { K.stalls out.old ≤ K.stalls out.new }
+{
+    match check_line(alloc, plan) {
+        Ok(line) => match write_whole(out, line.as_bytes()) {
+            Ok(()) => Ran::Done,
+            Err(_) => Ran::WriteFault,
+        },
+        Err(_) => Ran::Memory,
+    }
+}
