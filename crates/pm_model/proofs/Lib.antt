@@ -4,5 +4,7 @@ pub mod Deeds
 pub mod ExampleLaws
 pub mod HitLaws
 pub mod Retired
+pub mod Rises
+pub mod Below
 pub mod Starts
 pub mod Turns

@@ -55,10 +55,10 @@ due-falls plan t x regs true lt le = omega arith
 due-falls plan t x regs false lt le = omega arith
 
 -- the time rises
-later-rises : (t w : ℕ) → 1 ≤ w → t < 2 ^ 64 - 1 → t < later t w
+pub later-rises : (t w : ℕ) → 1 ≤ w → t < 2 ^ 64 - 1 → t < later t w
 later-rises t w one lt = omega arith
 
-all-at : {X : Type 0} (P : X → Type 0) (xs : List X) (i : ℕ) (x : X) → slice_get xs i ≡ Some x → AllByRecursion P xs → P x
+pub all-at : {X : Type 0} (P : X → Type 0) (xs : List X) (i : ℕ) (x : X) → slice_get xs i ≡ Some x → AllByRecursion P xs → P x
 all-at P [] i x h all = absurd (cc h)
 all-at P (y ∷ xs) zero x h all = subst P (same_Some _ _ h) all.0
 all-at P (y ∷ xs) (suc i) x h all = all-at P xs i x h all.1

@@ -1,4 +1,5 @@
 pub mod Examples
+pub mod Entries
 pub mod Hits
 pub mod Runs
 pub mod Traces

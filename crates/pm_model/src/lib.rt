@@ -1,15 +1,18 @@
 //! The sequential run of a plan and its trace: definitions that contracts cite, and their laws.
 #![tactic(auto)]
 
-ghost use Rattle.std.specs.Prelude.{◌≡◌, ◌∷◌, ◌<◌, Some, None, [], codes};
+ghost use Rattle.std.specs.Prelude.{◌≡◌, ◌∷◌, ◌<◌, ◌^◌, Some, None, [], codes, length};
+ghost use Rattle.pm_model.specs.Entries.{IsCutAt, IsInOrder, IsOfPlan, IsOwnTime};
 ghost use Rattle.pm_model.specs.Examples.{counter, tie_read_first, tie_write_first};
 ghost use Rattle.pm_model.specs.Traces.{trace};
 ghost use Rattle.pm_plan.specs.declared.plan.Plan.{Plan};
-ghost use Rattle.pm_model.specs.Runs.{sequential_turn, Moved, IsTimely, IsRetired, rest, work};
+ghost use Rattle.pm_plan.specs.Limits.{IsWithinLimits};
+ghost use Rattle.pm_model.specs.Runs.{sequential_run, sequential_start, sequential_turn, Moved, IsTimely, IsRetired, rest, work};
 ghost use Rattle.pm_model.specs.declared.State.{State as TheState};
 ghost use Rattle.std.specs.List.{AllByRecursion};
 
-use pm_base::{Act, Hit, List, Value};
+use pm_base::{Act, Hit, Line, List, Value};
+use pm_plan::Plan as ThePlan;
 
 /// An agent between two steps: its registers, and the time of its next step, or none where it is retired.
 #[derive(Debug, Drop)]
@@ -59,4 +62,31 @@ pub fn what_is_left()
 pub fn all_are_retired()
     ensures { (plan : Plan) (s : TheState) → sequential_turn plan s ≡ None → IsTimely plan s →
         AllByRecursion IsRetired s.agents }
+{}
+
+/// A run starts in a state that has what each state of a run keeps.
+pub fn a_run_starts_in_time(plan: &ThePlan)
+    requires { IsWithinLimits plan.now }
+    ensures { IsTimely plan.now (sequential_start plan.now) }
+{}
+
+/// Stamps rise along a run, and its entries can be counted by a number of 64 bits.
+pub fn stamps_rise(plan: &ThePlan)
+    requires { IsWithinLimits plan.now }
+    ensures order { IsInOrder (sequential_run plan.now) }
+    ensures short { length (sequential_run plan.now) < 2 ^ 64 }
+{}
+
+/// The entries below a line come first in a run.
+pub fn what_is_below(plan: &ThePlan, line: Line)
+    requires { IsWithinLimits plan.now }
+    ensures { IsCutAt plan.now line }
+{}
+
+/// An agent acts at its own times: a turn's stamp names an agent of the plan at its next time, and so no stamp of a
+/// run is past the horizon.
+pub fn agents_act_at_their_times(plan: &ThePlan)
+    requires { IsWithinLimits plan.now }
+    ensures turn { (s : TheState) (m : Moved) → sequential_turn plan.now s ≡ Some m → IsOwnTime plan.now s m.entry.stamp }
+    ensures run { AllByRecursion (IsOfPlan plan.now) (sequential_run plan.now) }
 {}
