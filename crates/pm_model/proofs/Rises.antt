@@ -39,7 +39,7 @@ sooner-right k None b st u h ub lt = subst (λ (s : Stamp). stamp_lt u s ≡ fal
 sooner-right k (Some t) b st u h ub lt = not-before (record { time = t; agent = k }) b st u (nat_lt b.time t) refl h ub lt
 
 -- an agent that is due: not all are retired
-due-there : (agents : List AgentState) (i : ℕ) (a : AgentState) (t : ℕ) → slice_get agents i ≡ Some a → a.next ≡ Some t → AllByRecursion IsRetired agents → ⊥
+pub due-there : (agents : List AgentState) (i : ℕ) (a : AgentState) (t : ℕ) → slice_get agents i ≡ Some a → a.next ≡ Some t → AllByRecursion IsRetired agents → ⊥
 due-there agents i a t g e all = let none : a.next ≡ None = all-at IsRetired agents i a g all in cc (none, e)
 
 -- no agent's next step comes before the least stamp

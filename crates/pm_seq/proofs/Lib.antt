@@ -1,0 +1,4 @@
+pub mod Turns
+pub mod QueueLaws
+pub mod Running
+pub mod Steps
