@@ -1,5 +1,5 @@
 -- What a turn's answer says of the run.
-use Rattle.std.proofs.Common.{◌≡◌, List, [], ◌∷◌, Option, Some, None, Result, Ok, Err, refl, IfOk, ◌↔◌}
+use Rattle.std.proofs.Common.{◌≡◌, List, [], ◌∷◌, Option, Some, None, Result, Ok, Err, refl, sym, ◌∙◌, inl, inr, IfOk, ◌↔◌}
 use Rattle.std.specs.Prelude.{MatchOption}
 use Rattle.std.specs.List.{AllByRecursion}
 use Rattle.pm_base.specs.declared.rows.Entry.{Entry}
@@ -8,7 +8,9 @@ use Rattle.pm_model.proofs.Retired.{turn-none}
 use Rattle.pm_model.proofs.Rises.{due-there}
 use Rattle.pm_model.proofs.Turns.{took, rest-done, rest-step}
 use Rattle.pm_model.specs.declared.State.{State}
-use Rattle.pm_model.specs.Runs.{IsRetired, IsTimely, rest, sequential_turn}
+use Rattle.pm_model.specs.Runs.{IsRetired, IsTimely, least_stamp, rest, sequential_turn}
+use Rattle.pm_model.proofs.Choices.{option-cases}
+use Rattle.pm_seq.proofs.Turns.{turn-none-left}
 
 -- what a turn answers, and the state that it leaves
 abbrev pub Turned : {E : Type 0} → Plan → State → State → Result (Option Entry) E → Type 0
@@ -28,3 +30,17 @@ pub turned-left : {E : Type 0} (plan : Plan) (s r : State) (answer : Result (Opt
 turned-left plan s r (Err e) ok t = tt
 turned-left plan s r (Ok None) ok t = rest-done plan s t.0
 turned-left plan s r (Ok (Some e)) ok t = rest-step plan s (record { entry = e; state = r }) t ok
+
+cons-not : {e : Entry} {es : List Entry} → e ∷ es ≡ [] → ⊥
+cons-not h = cc h
+
+-- nothing is left where no agent acts next
+pub none-left : (plan : Plan) (s : State) → least_stamp 0 s.agents ≡ None → rest plan s ≡ []
+none-left plan s e = rest-done plan s (turn-none-left plan s e)
+
+-- where nothing is left all agents are retired
+pub left-none : (plan : Plan) (s : State) → IsTimely plan s → rest plan s ≡ [] → AllByRecursion IsRetired s.agents
+left-none plan s ok e = elim (option-cases (sequential_turn plan s)) [
+  | inl h ↦ turn-none plan s h ok
+  | inr q ↦ absurd (cons-not (sym (rest-step plan s q.0 q.1 ok) ∙ e))
+]

@@ -114,6 +114,7 @@ impl<'a> Seq<'a> {
     /// Whether all agents are retired.
     pub fn done(&self) -> bool
         ensures retired { (result ≡ true) ↔ AllByRecursion IsRetired self.now.state.agents }
+        ensures left { (result ≡ true) ↔ (rest self.now.plan self.now.state ≡ []) }
         ensures timely { IsTimely self.now.plan self.now.state }
         ensures limits { IsWithinLimits self.now.plan }
     {

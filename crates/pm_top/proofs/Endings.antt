@@ -10,6 +10,7 @@ runs-nothing ending.Done r n = absurd n
 runs-nothing ending.Words r n = absurd r
 runs-nothing ending.Refused r n = refl
 runs-nothing ending.TooLong r n = absurd r
+runs-nothing ending.BudgetSpent r n = absurd n
 runs-nothing ending.ReadFault r n = absurd r
 runs-nothing ending.WriteFault r n = absurd n
 runs-nothing ending.Memory r n = absurd n

@@ -1,78 +1,116 @@
 -- What a run has written so far.
-use Rattle.std.proofs.Common.{◌≡◌, ℕ, ◌+◌, List, [], ◌∷◌, ◌++◌, length, length-append, Option, Some, None, refl, sym, ap, ◌∙◌, append_assoc, append-nil, arith}
+use Rattle.std.proofs.Common.{◌≡◌, ℕ, zero, suc, ◌+◌, ◌<◌, ◌≤◌, List, [], ◌∷◌, ◌++◌, length, length-append, take, Option, Some, None, refl, sym, ap, ◌∙◌, subst, append_assoc, append-nil, arith}
 use Rattle.std.proofs.lemmas.Grind.{flat_map-append}
+use Rattle.std.proofs.lemmas.List.{take_at, take-append-le}
 use Rattle.std.specs.Io.KnownBytes.{Appends}
 use Rattle.pm_base.specs.declared.rows.Entry.{Entry}
 use Rattle.pm_plan.specs.declared.plan.Plan.{Plan}
-use Rattle.pm_model.specs.declared.State.{State}
-use Rattle.pm_model.specs.Runs.{Moved, IsTimely, rest, sequential_run, sequential_start, sequential_turn}
+use Rattle.pm_model.specs.Runs.{sequential_run}
 use Rattle.pm_model.specs.Traces.{line, trace_text, end_line, trace}
-use Rattle.pm_model.proofs.Turns.{rest-step, rest-done}
 use Rattle.pm_io.specs.Causes.{AppendsPart, AppendsPrefix}
 use Rattle.pm_io.proofs.Known.{appends-append, appends-none, prefix-part, prefix-none, prefix-more, prefix-after}
 
--- these entries were written, and what is left follows them
-pub record IsSoFar (plan : Plan) (s : State) (old now : Option (List ℕ)) (steps : ℕ) : Type 0 where
+-- the lines of the first steps were written, and these entries are left
+pub record IsSoFar (plan : Plan) (left : List Entry) (old now : Option (List ℕ)) (steps : ℕ) : Type 0 where
   pub entries : List Entry
-  pub left : sequential_run plan ≡ entries ++ rest plan s
+  pub parts : sequential_run plan ≡ entries ++ left
   pub count : steps ≡ length entries
   pub grew : Appends old now (trace_text plan entries)
 
-pub sofar-first : (plan : Plan) (old : Option (List ℕ)) → IsSoFar plan (sequential_start plan) old old 0
-sofar-first plan old = record { entries = []; left = refl; count = refl; grew = appends-none old }
+pub sofar-first : (plan : Plan) (old : Option (List ℕ)) → IsSoFar plan (sequential_run plan) old old 0
+sofar-first plan old = record { entries = []; parts = refl; count = refl; grew = appends-none old }
 
 text-one : (plan : Plan) (es : List Entry) (e : Entry) → trace_text plan (es ++ e ∷ []) ≡ trace_text plan es ++ line plan e
 text-one plan es e = flat_map-append (line plan) es (e ∷ []) ∙ ap (λ v. trace_text plan es ++ v) (append-nil (line plan e))
 
-pub sofar-wrote : (plan : Plan) (s : State) (m : Moved) (old now new : Option (List ℕ)) (n : ℕ) → IsTimely plan s → sequential_turn plan s ≡ Some m
-    → IsSoFar plan s old now n → Appends now new (line plan m.entry) → IsSoFar plan m.state old new (n + 1)
-sofar-wrote plan s m old now new n ok t so w = record {
-  entries = so.entries ++ m.entry ∷ [];
-  left = so.left ∙ ap (λ v. so.entries ++ v) (rest-step plan s m t ok) ∙ sym (append_assoc so.entries (m.entry ∷ []) (rest plan m.state));
-  count = omega (arith, so.count, length-append so.entries (m.entry ∷ []));
-  grew = rw (text-one plan so.entries m.entry) (appends-append old now new (trace_text plan so.entries) (line plan m.entry) so.grew w);
+pub sofar-wrote : (plan : Plan) (e : Entry) (es : List Entry) (old now new : Option (List ℕ)) (n : ℕ)
+    → IsSoFar plan (e ∷ es) old now n → Appends now new (line plan e) → IsSoFar plan es old new (n + 1)
+sofar-wrote plan e es old now new n so w = record {
+  entries = so.entries ++ e ∷ [];
+  parts = so.parts ∙ sym (append_assoc so.entries (e ∷ []) es);
+  count = omega (arith, so.count, length-append so.entries (e ∷ []));
+  grew = rw (text-one plan so.entries e) (appends-append old now new (trace_text plan so.entries) (line plan e) so.grew w);
 }
 
 -- the whole trace, from what was written on
-trace-from : (plan : Plan) (s : State) (old now : Option (List ℕ)) (n : ℕ) (so : IsSoFar plan s old now n)
-    → trace plan ≡ trace_text plan so.entries ++ (trace_text plan (rest plan s) ++ end_line (length (sequential_run plan)))
-trace-from plan s old now n so =
-    ap (λ es. trace_text plan es ++ end_line (length (sequential_run plan))) so.left
-    ∙ ap (λ v. v ++ end_line (length (sequential_run plan))) (flat_map-append (line plan) so.entries (rest plan s))
-    ∙ append_assoc (trace_text plan so.entries) (trace_text plan (rest plan s)) (end_line (length (sequential_run plan)))
+trace-from : (plan : Plan) (left : List Entry) (old now : Option (List ℕ)) (n : ℕ) (so : IsSoFar plan left old now n)
+    → trace plan ≡ trace_text plan so.entries ++ (trace_text plan left ++ end_line (length (sequential_run plan)))
+trace-from plan left old now n so =
+    ap (λ es. trace_text plan es ++ end_line (length (sequential_run plan))) so.parts
+    ∙ ap (λ v. v ++ end_line (length (sequential_run plan))) (flat_map-append (line plan) so.entries left)
+    ∙ append_assoc (trace_text plan so.entries) (trace_text plan left) (end_line (length (sequential_run plan)))
 
-end-is : (plan : Plan) (s : State) (old now : Option (List ℕ)) (n : ℕ) → sequential_turn plan s ≡ None → IsSoFar plan s old now n → length (sequential_run plan) ≡ n
-end-is plan s old now n t so =
-    ap length so.left ∙ ap (λ v. length (so.entries ++ v)) (rest-done plan s t) ∙ ap length (append-nil so.entries) ∙ sym so.count
+-- how long the run is where nothing is left
+pub sofar-count : (plan : Plan) (old now : Option (List ℕ)) (n : ℕ) → IsSoFar plan [] old now n → length (sequential_run plan) ≡ n
+sofar-count plan old now n so = ap length so.parts ∙ ap length (append-nil so.entries) ∙ sym so.count
 
--- what is left to write where all are retired
-trace-end : (plan : Plan) (s : State) (old now : Option (List ℕ)) (n : ℕ) → sequential_turn plan s ≡ None → (so : IsSoFar plan s old now n)
-    → trace plan ≡ trace_text plan so.entries ++ end_line n
-trace-end plan s old now n t so =
-    trace-from plan s old now n so
-    ∙ ap (λ v. trace_text plan so.entries ++ (trace_text plan v ++ end_line (length (sequential_run plan)))) (rest-done plan s t)
-    ∙ ap (λ v. trace_text plan so.entries ++ end_line v) (end-is plan s old now n t so)
+-- what is then left to write
+trace-end : (plan : Plan) (old now : Option (List ℕ)) (n : ℕ) (so : IsSoFar plan [] old now n) → trace plan ≡ trace_text plan so.entries ++ end_line n
+trace-end plan old now n so =
+    trace-from plan [] old now n so ∙ ap (λ v. trace_text plan so.entries ++ end_line v) (sofar-count plan old now n so)
 
-pub sofar-done : (plan : Plan) (s : State) (old now new : Option (List ℕ)) (n : ℕ) → sequential_turn plan s ≡ None
-    → IsSoFar plan s old now n → Appends now new (end_line n) → Appends old new (trace plan)
-sofar-done plan s old now new n t so w =
-    rw (trace-end plan s old now n t so) (appends-append old now new (trace_text plan so.entries) (end_line n) so.grew w)
+pub sofar-done : (plan : Plan) (old now new : Option (List ℕ)) (n : ℕ) → IsSoFar plan [] old now n → Appends now new (end_line n) → Appends old new (trace plan)
+sofar-done plan old now new n so w =
+    rw (trace-end plan old now n so) (appends-append old now new (trace_text plan so.entries) (end_line n) so.grew w)
 
-pub sofar-end : (plan : Plan) (s : State) (old now new : Option (List ℕ)) (n : ℕ) → sequential_turn plan s ≡ None
-    → IsSoFar plan s old now n → AppendsPrefix now new (end_line n) → AppendsPrefix old new (trace plan)
-sofar-end plan s old now new n t so w =
-    rw (trace-end plan s old now n t so) (prefix-after old now new (trace_text plan so.entries) (end_line n) so.grew w)
+pub sofar-end : (plan : Plan) (old now new : Option (List ℕ)) (n : ℕ) → IsSoFar plan [] old now n → AppendsPrefix now new (end_line n)
+    → AppendsPrefix old new (trace plan)
+sofar-end plan old now new n so w =
+    rw (trace-end plan old now n so) (prefix-after old now new (trace_text plan so.entries) (end_line n) so.grew w)
 
-pub sofar-stop : (plan : Plan) (s : State) (old now : Option (List ℕ)) (n : ℕ) → IsSoFar plan s old now n → AppendsPrefix old now (trace plan)
-sofar-stop plan s old now n so =
-    rw (trace-from plan s old now n so) (prefix-after old now now (trace_text plan so.entries) _ so.grew (prefix-none now _))
+pub sofar-stop : (plan : Plan) (left : List Entry) (old now : Option (List ℕ)) (n : ℕ) → IsSoFar plan left old now n → AppendsPrefix old now (trace plan)
+sofar-stop plan left old now n so =
+    rw (trace-from plan left old now n so) (prefix-after old now now (trace_text plan so.entries) _ so.grew (prefix-none now _))
 
-pub sofar-fault : (plan : Plan) (s : State) (m : Moved) (old now new : Option (List ℕ)) (n : ℕ) → IsTimely plan s → sequential_turn plan s ≡ Some m
-    → IsSoFar plan s old now n → AppendsPart now new (line plan m.entry) → AppendsPrefix old new (trace plan)
-sofar-fault plan s m old now new n ok t so w =
-    let tail = trace_text plan (rest plan m.state) ++ end_line (length (sequential_run plan)) in
-    let step : trace_text plan (rest plan s) ++ end_line (length (sequential_run plan)) ≡ line plan m.entry ++ tail =
-    ap (λ es. trace_text plan es ++ end_line (length (sequential_run plan))) (rest-step plan s m t ok)
-    ∙ append_assoc (line plan m.entry) (trace_text plan (rest plan m.state)) (end_line (length (sequential_run plan))) in
-    rw (trace-from plan s old now n so, step)
-    (prefix-after old now new (trace_text plan so.entries) (line plan m.entry ++ tail) so.grew (prefix-more now new (line plan m.entry) tail (prefix-part now new (line plan m.entry) w)))
+pub sofar-fault : (plan : Plan) (e : Entry) (es : List Entry) (old now new : Option (List ℕ)) (n : ℕ)
+    → IsSoFar plan (e ∷ es) old now n → AppendsPart now new (line plan e) → AppendsPrefix old new (trace plan)
+sofar-fault plan e es old now new n so w =
+    let tail = trace_text plan es ++ end_line (length (sequential_run plan)) in
+    let step : trace_text plan (e ∷ es) ++ end_line (length (sequential_run plan)) ≡ line plan e ++ tail =
+    append_assoc (line plan e) (trace_text plan es) (end_line (length (sequential_run plan))) in
+    rw (trace-from plan (e ∷ es) old now n so, step)
+    (prefix-after old now new (trace_text plan so.entries) (line plan e ++ tail) so.grew (prefix-more now new (line plan e) tail (prefix-part now new (line plan e) w)))
+
+-- the run is longer than what was done, whose lines were written
+spent-by : (plan : Plan) (left : List Entry) (old now : Option (List ℕ)) (n : ℕ) (so : IsSoFar plan left old now n) → (left ≡ [] → ⊥) → n < length (sequential_run plan)
+spent-by plan [] old now n so more = absurd (more refl)
+spent-by plan (e ∷ es) old now n so more = omega (arith, so.count, ap length so.parts, length-append so.entries (e ∷ es))
+
+pub sofar-spent : (plan : Plan) (left : List Entry) (old now : Option (List ℕ)) (n : ℕ) → IsSoFar plan left old now n → (left ≡ [] → ⊥)
+    → (n < length (sequential_run plan)) × Appends old now (trace_text plan (take n (sequential_run plan)))
+sofar-spent plan left old now n so more =
+    let first : take n (sequential_run plan) ≡ so.entries = ap (take n) so.parts ∙ take_at so.entries left n (sym so.count) in
+    (spent-by plan left old now n so more, rw first so.grew)
+
+-- more than the first n are taken: one more, and some that follow it
+take-past : (xs ys : List Entry) (y : Entry) (n b : ℕ) → n ≡ length xs → n < b → (zs : List Entry) × (take b (xs ++ y ∷ ys) ≡ xs ++ y ∷ zs)
+take-past [] ys y n zero e lt = absurd (omega (arith, lt))
+take-past [] ys y n (suc b) e lt = (take b ys, refl)
+take-past (x ∷ xs) ys y n zero e lt = absurd (omega (arith, lt))
+take-past (x ∷ xs) ys y n (suc b) e lt =
+    let r = take-past xs ys y (length xs) b refl (omega (arith, e, lt)) in
+    (r.0, ap (λ v. x ∷ v) r.1)
+
+take-over : (xs ys zs : List ℕ) (k : ℕ) → k < length ys → take (length xs + k) (xs ++ (ys ++ zs)) ≡ xs ++ take k ys
+take-over [] ys zs k lt =
+    let e : 0 + k ≡ k = omega arith in
+    ap (λ n. take n (ys ++ zs)) e ∙ take-append-le k ys zs (omega (arith, lt))
+take-over (x ∷ xs) ys zs k lt =
+    let e : length (x ∷ xs) + k ≡ suc (length xs + k) = omega arith in
+    ap (λ n. take n (x ∷ (xs ++ (ys ++ zs)))) e ∙ ap (λ v. x ∷ v) (take-over xs ys zs k lt)
+
+-- what lacks a byte of a later part lacks a byte of the whole
+part-within : (old now new : Option (List ℕ)) (xs ys zs : List ℕ) → Appends old now xs → AppendsPart now new ys → AppendsPart old new (xs ++ (ys ++ zs))
+part-within old now new xs ys zs a p = (
+  length xs + p.0,
+  omega (arith, p.1, length-append xs (ys ++ zs), length-append ys zs),
+  rw (take-over xs ys zs p.0 p.1) (appends-append old now new xs (take p.0 ys) a p.2),
+)
+
+pub sofar-lacks : (plan : Plan) (e : Entry) (es : List Entry) (old now new : Option (List ℕ)) (n budget : ℕ)
+    → IsSoFar plan (e ∷ es) old now n → n < budget → AppendsPart now new (line plan e) → AppendsPart old new (trace_text plan (take budget (sequential_run plan)))
+sofar-lacks plan e es old now new n budget so lt w =
+    let r = take-past so.entries es e n budget so.count lt in
+    let text : trace_text plan (take budget (sequential_run plan)) ≡ trace_text plan so.entries ++ (line plan e ++ trace_text plan r.0) =
+    ap (λ v. trace_text plan (take budget v)) so.parts ∙ ap (trace_text plan) r.1 ∙ flat_map-append (line plan) so.entries (e ∷ r.0) in
+    rw text (part-within old now new (trace_text plan so.entries) (line plan e) (trace_text plan r.0) so.grew w)

@@ -8,6 +8,6 @@ pub record IsReadWhole (old new : Option (List ℕ)) (bytes : List ℕ) : Type 0
   pub end : IsAtEnd new
   pub few : length bytes ≤ 4194304
 
--- too many bytes were taken, but no further piece after the first that passed the limit
+-- more bytes were taken than a scenario may have, but at most 65,536 more
 abbrev pub IsReadPast : Option (List ℕ) → Option (List ℕ) → Type 0
 IsReadPast old new = (bytes : List ℕ) × Consumes old new bytes × (4194304 < length bytes) × (length bytes ≤ 4194304 + 65536)

@@ -16,6 +16,8 @@ pub enum Ending {
     Refused,
     /// The input is longer than a scenario may be.
     TooLong,
+    /// The budget of steps is spent, and the run goes on.
+    BudgetSpent,
     /// The input failed.
     ReadFault,
     /// The output failed, or took nothing.
@@ -32,6 +34,7 @@ pub fn status_of(ending: Ending) -> u8
         Ending::Done => 0,
         Ending::Words => 1,
         Ending::Refused | Ending::TooLong => 2,
+        Ending::BudgetSpent => 3,
         Ending::ReadFault => 4,
         Ending::WriteFault => 5,
         Ending::Memory => 6,
@@ -47,6 +50,7 @@ fn error_line(ending: Ending) -> &'static str
         Ending::Words => "pdesmas: the words are not understood\n",
         Ending::Refused => "pdesmas: scenario: this form is not built yet\n",
         Ending::TooLong => "pdesmas: the scenario is longer than 4194304 bytes\n",
+        Ending::BudgetSpent => "pdesmas: the budget is spent\n",
         Ending::ReadFault => "pdesmas: the input cannot be read\n",
         Ending::WriteFault => "pdesmas: the output cannot be written\n",
         Ending::Memory => "pdesmas: out of memory\n",

@@ -1,20 +1,20 @@
-ghost use Rattle.std.specs.Prelude.{◌≡◌, ◌≤◌, ◌<◌, ◌^◌, ◌⊎◌, Some, None};
+ghost use Rattle.std.specs.Prelude.{◌≡◌, ◌≢◌, ◌≤◌, ◌<◌, ◌∷◌, ◌⊎◌, [], List, length, take};
 ghost use Rattle.std.specs.Io.KnownBytes.{Appends};
 ghost use Rattle.pm_io.specs.Causes.{AppendsPart, AppendsPrefix, Rose};
+ghost use Rattle.pm_base.specs.declared.rows.Entry.{Entry as TheEntry};
 ghost use Rattle.pm_plan.specs.Limits.{IsWithinLimits};
-ghost use Rattle.pm_model.specs.Runs.{Moved, IsTimely, sequential_start, sequential_turn, work};
-ghost use Rattle.pm_model.specs.Traces.{line, end_line, trace};
+ghost use Rattle.pm_model.specs.Runs.{rest, sequential_run};
+ghost use Rattle.pm_model.specs.Traces.{line, end_line, trace, trace_text};
 
-use crate::text::{end_line, line};
-use crate::turn::{sequential_start, sequential_turn};
 use pm_io::{Sink, write_whole};
-use pm_model::State;
 use pm_plan::Plan;
+use pm_seq::Seq;
+use pm_trace::{end_line, line};
 use std::alloc::Global;
 
-/// How a turn went.
+/// How a step went.
 #[derive(Clone, Copy, Debug, PartialEq, Eq)]
-enum Turned {
+enum Stepped {
     Wrote,
     End,
     WriteFault,
@@ -25,66 +25,78 @@ enum Turned {
 #[derive(Clone, Copy, Debug, PartialEq, Eq)]
 pub enum Ran {
     Done,
+    BudgetSpent,
     WriteFault,
     Memory,
 }
 
-/// Does a turn and writes its line.
-fn write_turn<K: Sink>(alloc: Global, plan: &Plan, state: &mut State, out: &mut K) -> Turned
-    requires limits { IsWithinLimits plan.now }
-    requires timely { IsTimely plan.now state.old }
-    ensures wrote { result ≡ Turned.Wrote → (m : Moved) × (sequential_turn plan.now state.old ≡ Some m)
-        × (m.state ≡ state.new) × Appends (K.holds out.old) (K.holds out.new) (line plan.now m.entry) }
-    ensures end { result ≡ Turned.End → (sequential_turn plan.now state.old ≡ None)
-        × (state.new ≡ state.old) × (out.new ≡ out.old) }
-    ensures fault { result ≡ Turned.WriteFault → (m : Moved)
-        × (sequential_turn plan.now state.old ≡ Some m)
-        × AppendsPart (K.holds out.old) (K.holds out.new) (line plan.now m.entry) }
-    ensures memory { result ≡ Turned.Memory → out.new ≡ out.old }
-    ensures cause { result ≡ Turned.WriteFault → Rose (K.faults out.old) (K.faults out.new)
+/// Does the next step and writes its line.
+fn write_step<K: Sink>(alloc: Global, plan: &Plan, seq: &mut Seq, out: &mut K) -> Stepped
+    requires { seq.old.plan ≡ plan.now }
+    ensures wrote { result ≡ Stepped.Wrote → (e : TheEntry)
+        × (rest plan.now seq.old.state ≡ e ∷ rest plan.now seq.new.state)
+        × Appends (K.holds out.old) (K.holds out.new) (line plan.now e) }
+    ensures end { result ≡ Stepped.End → (rest plan.now seq.old.state ≡ []) × (out.new ≡ out.old) }
+    ensures fault { result ≡ Stepped.WriteFault → (e : TheEntry) × (es : List TheEntry)
+        × (rest plan.now seq.old.state ≡ e ∷ es)
+        × AppendsPart (K.holds out.old) (K.holds out.new) (line plan.now e) }
+    ensures memory { result ≡ Stepped.Memory → out.new ≡ out.old }
+    ensures cause { result ≡ Stepped.WriteFault → Rose (K.faults out.old) (K.faults out.new)
         ⊎ Rose (K.stalls out.old) (K.stalls out.new) }
+    ensures plan { seq.new.plan ≡ seq.old.plan }
     ensures faults { K.faults out.old ≤ K.faults out.new }
     ensures stalls { K.stalls out.old ≤ K.stalls out.new }
 {
-    let entry = match sequential_turn(alloc, plan, state) {
+    let entry = match seq.step(alloc) {
         Ok(Some(entry)) => entry,
-        Ok(None) => return Turned::End,
-        Err(_) => return Turned::Memory,
+        Ok(None) => return Stepped::End,
+        Err(_) => return Stepped::Memory,
     };
     let bytes = match line(alloc, plan, &entry) {
         Ok(bytes) => bytes,
-        Err(_) => return Turned::Memory,
+        Err(_) => return Stepped::Memory,
     };
     match write_whole(out, bytes.as_slice()) {
-        Ok(()) => Turned::Wrote,
-        Err(_) => Turned::WriteFault,
+        Ok(()) => Stepped::Wrote,
+        Err(_) => Stepped::WriteFault,
     }
 }
 
 /// Writes the trace of the sequential run: each line by itself, so that what was written is a prefix of the trace
-/// wherever the run stops.
-pub fn write_run<K: Sink>(alloc: Global, plan: &Plan, out: &mut K) -> Ran
+/// wherever the run stops. It does at most `budget` steps.
+pub fn write_run<K: Sink>(alloc: Global, plan: &Plan, budget: u64, out: &mut K) -> Ran
     requires { IsWithinLimits plan.now }
     ensures done { result ≡ Ran.Done → Appends (K.holds out.old) (K.holds out.new) (trace plan.now) }
+    ensures within { result ≡ Ran.Done → length (sequential_run plan.now) ≤ budget }
+    ensures spent { result ≡ Ran.BudgetSpent → (budget < length (sequential_run plan.now))
+        × Appends (K.holds out.old) (K.holds out.new)
+        (trace_text plan.now (take budget (sequential_run plan.now))) }
     ensures part { AppendsPrefix (K.holds out.old) (K.holds out.new) (trace plan.now) }
+    ensures lacks { result ≡ Ran.WriteFault → budget < length (sequential_run plan.now) →
+        AppendsPart (K.holds out.old) (K.holds out.new)
+        (trace_text plan.now (take budget (sequential_run plan.now))) }
     ensures cause { result ≡ Ran.WriteFault → Rose (K.faults out.old) (K.faults out.new)
         ⊎ Rose (K.stalls out.old) (K.stalls out.new) }
     ensures faults { K.faults out.old ≤ K.faults out.new }
     ensures stalls { K.stalls out.old ≤ K.stalls out.new }
 {
-    let mut state = match sequential_start(alloc, plan) {
-        Ok(state) => state,
+    let mut seq = match Seq::new(alloc, plan) {
+        Ok(seq) => seq,
         Err(_) => return Ran::Memory,
     };
     let mut steps: u64 = 0;
-    'turns: loop {
-        match write_turn(alloc, plan, &mut state, out) {
-            Turned::Wrote => steps += 1,
-            Turned::End => return write_end(alloc, steps, out),
-            Turned::WriteFault => return Ran::WriteFault,
-            Turned::Memory => return Ran::Memory,
+    'steps: while steps < budget {
+        match write_step(alloc, plan, &mut seq, out) {
+            Stepped::Wrote => steps += 1,
+            Stepped::End => return write_end(alloc, steps, out),
+            Stepped::WriteFault => return Ran::WriteFault,
+            Stepped::Memory => return Ran::Memory,
         }
     }
+    if seq.done() {
+        return write_end(alloc, steps, out);
+    }
+    Ran::BudgetSpent
 }
 
 /// Writes the end line.
@@ -93,6 +105,7 @@ fn write_end<K: Sink>(alloc: Global, steps: u64, out: &mut K) -> Ran
     ensures part { AppendsPrefix (K.holds out.old) (K.holds out.new) (end_line steps) }
     ensures cause { result ≡ Ran.WriteFault → Rose (K.faults out.old) (K.faults out.new)
         ⊎ Rose (K.stalls out.old) (K.stalls out.new) }
+    ensures wrote { result ≢ Ran.BudgetSpent }
     ensures faults { K.faults out.old ≤ K.faults out.new }
     ensures stalls { K.stalls out.old ≤ K.stalls out.new }
 {

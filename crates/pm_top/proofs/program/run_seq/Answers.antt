@@ -1,5 +1,5 @@
 use Rattle.std.proofs.Common.{Some, subst}
-use Rattle.pm_top.specs.Headline.{EndsRun, IsAccepted, IsRefused, PrintsPrefix, PrintsTrace}
+use Rattle.pm_top.specs.Headline.{EndsRun, IsAccepted, IsRefused, LacksLines, PrintsPrefix, PrintsSpent, PrintsTrace}
 use Rattle.pm_top.proofs.Endings.{runs-nothing}
 use Rattle.pm_top.proofs.Prints.{accepted-is, held-too-long, of-held, prints-none, refused-is}
 use Rattle.pm_top.proofs.program.run_seq.Goals as goal
@@ -20,8 +20,18 @@ returns-in-Err-Memory-clause-part g c = prints-none (g.S.Source.held c.args.inpu
 
 pub returns-clause-done : goal.returns-clause-done
 returns-clause-done g c =
-    λ h. of-held (λ b. PrintsTrace (Some b) (g.K.Sink.holds c.args.out.now) (g.K.Sink.holds c.run_text.new.out)) (g.S.Source.held c.args.input.now)
+    λ h. of-held (λ b. PrintsTrace c.args.budget (Some b) (g.K.Sink.holds c.args.out.now) (g.K.Sink.holds c.run_text.new.out)) (g.S.Source.held c.args.input.now)
     (g.S.Source.held c.read_whole.new.input) c.in-Ok.bytes.items c.in-Ok.ensures.whole (rw c.as_slice.ensures.value at (c.run_text.ensures.done h))
+
+pub returns-clause-spent : goal.returns-clause-spent
+returns-clause-spent g c =
+    λ h. of-held (λ b. PrintsSpent c.args.budget (Some b) (g.K.Sink.holds c.args.out.now) (g.K.Sink.holds c.run_text.new.out)) (g.S.Source.held c.args.input.now)
+    (g.S.Source.held c.read_whole.new.input) c.in-Ok.bytes.items c.in-Ok.ensures.whole (rw c.as_slice.ensures.value at (c.run_text.ensures.spent h))
+
+pub returns-clause-lacks : goal.returns-clause-lacks
+returns-clause-lacks g c =
+    λ h. of-held (λ b. LacksLines c.args.budget (Some b) (g.K.Sink.holds c.args.out.now) (g.K.Sink.holds c.run_text.new.out)) (g.S.Source.held c.args.input.now)
+    (g.S.Source.held c.read_whole.new.input) c.in-Ok.bytes.items c.in-Ok.ensures.whole (rw c.as_slice.ensures.value at (c.run_text.ensures.lacks h))
 
 pub returns-clause-part : goal.returns-clause-part
 returns-clause-part g c =

@@ -1,0 +1,84 @@
+-- Which endings come of an input, where the devices do not fail.
+use Rattle.std.proofs.Common.{◌≡◌, ◌≢◌, ◌⊎◌, inl, inr, ℕ, ◌<◌, ◌≤◌, List, length, Option, Some, None, IfSome, refl, sym, ap, ◌∙◌, arith}
+use Rattle.std.proofs.lemmas.Option.{same_Some}
+use Rattle.pm_plan.specs.declared.plan.Plan.{Plan}
+use Rattle.pm_model.specs.Runs.{sequential_run}
+use Rattle.pm_scenario.specs.Scenarios.{plan_of}
+use Rattle.pm_top.specs.Headline.{IsAccepted, IsRefused, IsTooLong, IsWithin, PrintsSpent}
+use Rattle.pm_top.specs.declared.outcome.Ending.{Ending}
+use Rattle.pm_top.specs.declared.outcome.Ending.TheVariants as ending
+
+-- the endings that come of a scenario alone
+abbrev pub Accepts : Ending → Type 0
+Accepts e = (e ≡ ending.Done) ⊎ ((e ≡ ending.BudgetSpent) ⊎ (e ≡ ending.WriteFault))
+
+-- what a run of the words `seq` says of its ending
+pub record Told (e : Ending) (held : Option (List ℕ)) : Type 0 where
+  pub words : e ≢ ending.Words
+  pub refused : e ≡ ending.Refused → IfSome held IsRefused
+  pub too_long : e ≡ ending.TooLong → IfSome held IsTooLong
+  pub accepted : Accepts e → IfSome held IsAccepted
+
+not-both : (b : List ℕ) → IsAccepted b → IsRefused b → ⊥
+not-both b a r = cc (sym a.is ∙ r.no_plan)
+
+not-long : (b : List ℕ) → length b ≤ 4194304 → IsTooLong b → ⊥
+not-long b short long = omega (arith, short, long)
+
+pub refuses : (e : Ending) (held : Option (List ℕ)) → Told e held → e ≢ ending.ReadFault → e ≢ ending.Memory → IfSome held (λ b. IsRefused b → e ≡ ending.Refused)
+refuses e None t read memory = tt
+refuses ending.Done (Some b) t read memory = λ r. absurd (not-both b (t.accepted (inl refl)) r)
+refuses ending.Words (Some b) t read memory = absurd (t.words refl)
+refuses ending.Refused (Some b) t read memory = λ r. refl
+refuses ending.TooLong (Some b) t read memory = λ r. absurd (not-long b r.short (t.too_long refl))
+refuses ending.BudgetSpent (Some b) t read memory = λ r. absurd (not-both b (t.accepted (inr (inl refl))) r)
+refuses ending.ReadFault (Some b) t read memory = absurd (read refl)
+refuses ending.WriteFault (Some b) t read memory = λ r. absurd (not-both b (t.accepted (inr (inr refl))) r)
+refuses ending.Memory (Some b) t read memory = absurd (memory refl)
+
+pub limits : (e : Ending) (held : Option (List ℕ)) → Told e held → e ≢ ending.ReadFault → e ≢ ending.Memory → IfSome held (λ b. IsTooLong b → e ≡ ending.TooLong)
+limits e None t read memory = tt
+limits ending.Done (Some b) t read memory = λ long. absurd (not-long b (t.accepted (inl refl)).short long)
+limits ending.Words (Some b) t read memory = absurd (t.words refl)
+limits ending.Refused (Some b) t read memory = λ long. absurd (not-long b (t.refused refl).short long)
+limits ending.TooLong (Some b) t read memory = λ long. refl
+limits ending.BudgetSpent (Some b) t read memory = λ long. absurd (not-long b (t.accepted (inr (inl refl))).short long)
+limits ending.ReadFault (Some b) t read memory = absurd (read refl)
+limits ending.WriteFault (Some b) t read memory = λ long. absurd (not-long b (t.accepted (inr (inr refl))).short long)
+limits ending.Memory (Some b) t read memory = absurd (memory refl)
+
+pub completes : (e : Ending) (held : Option (List ℕ)) → Told e held → e ≢ ending.ReadFault → e ≢ ending.WriteFault
+    → IfSome held (λ b. IsAccepted b → (e ≡ ending.Done) ⊎ ((e ≡ ending.BudgetSpent) ⊎ (e ≡ ending.Memory)))
+completes e None t read write = tt
+completes ending.Done (Some b) t read write = λ a. inl refl
+completes ending.Words (Some b) t read write = absurd (t.words refl)
+completes ending.Refused (Some b) t read write = λ a. absurd (not-both b a (t.refused refl))
+completes ending.TooLong (Some b) t read write = λ a. absurd (not-long b a.short (t.too_long refl))
+completes ending.BudgetSpent (Some b) t read write = λ a. inr (inl refl)
+completes ending.ReadFault (Some b) t read write = absurd (read refl)
+completes ending.WriteFault (Some b) t read write = absurd (write refl)
+completes ending.Memory (Some b) t read write = λ a. inr (inr refl)
+
+-- a budget that is enough isn't spent
+spent-not : (budget : ℕ) (b : List ℕ) (old new : Option (List ℕ)) → PrintsSpent budget (Some b) old new → IsWithin budget b → ⊥
+spent-not budget b old new s w =
+    let same : s.0 ≡ w.scenario.plan = same_Some _ _ (sym s.1 ∙ w.scenario.is) in
+    omega (arith, s.2, w.few, ap (λ (p : Plan). length (sequential_run p)) same)
+
+or-done : (e : Ending) → (e ≡ ending.BudgetSpent → ⊥) → (e ≡ ending.Done) ⊎ ((e ≡ ending.BudgetSpent) ⊎ (e ≡ ending.Memory)) → (e ≡ ending.Done) ⊎ (e ≡ ending.Memory)
+or-done e spent (inl h) = inl h
+or-done e spent (inr (inl h)) = absurd (spent h)
+or-done e spent (inr (inr h)) = inr h
+
+pub within : (e : Ending) (budget : ℕ) (held old new : Option (List ℕ)) → Told e held → e ≢ ending.ReadFault → e ≢ ending.WriteFault
+    → (e ≡ ending.BudgetSpent → PrintsSpent budget held old new)
+    → IfSome held (λ b. IsWithin budget b → (e ≡ ending.Done) ⊎ (e ≡ ending.Memory))
+within e budget None old new t read write spent = tt
+within e budget (Some b) old new t read write spent =
+    λ w. or-done e (λ h. spent-not budget b old new (spent h) w) (completes e (Some b) t read write w.scenario)
+
+-- words that are not understood are no scenario's
+pub words-not : Accepts ending.Words → ⊥
+words-not (inl h) = cc h
+words-not (inr (inl h)) = cc h
+words-not (inr (inr h)) = cc h

@@ -1,6 +1,0 @@
-use Rattle.std.proofs.Common.{◌≡◌, map, take}
-use Rattle.pm_base.specs.declared.program.RegRow.{RegRow}
-use Rattle.pm_top.proofs.turn.first_regs.Given as goal
-
-abbrev pub invariant-loop-row : goal.invariant-loop-row
-invariant-loop-row l = l.all ≡ map (λ (r : RegRow). r.start) (take l.row-index l.rows)
