@@ -5,6 +5,8 @@ mod outcome;
 mod program;
 mod reading;
 mod run;
+#[cfg(test)]
+mod tests;
 
 pub use outcome::Ending;
 pub use program::{Report, plain, top};
