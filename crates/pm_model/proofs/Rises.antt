@@ -1,8 +1,8 @@
 -- The stamps of a run rise.
-use Rattle.std.proofs.Common.{◌≡◌, ℕ, zero, suc, ◌+◌, ◌^◌, ◌<◌, ◌≤◌, ◌⊎◌, inl, inr, List, [], ◌∷◌, length, set, Bool, true, false, Option, Some, None, option_map, ℤ, refl, sym, ap, ◌∙◌, subst, arith, cond, nat_lt, nat_le}
+use Rattle.std.proofs.Common.{◌≡◌, ℕ, zero, suc, ◌+◌, ◌<◌, ◌≤◌, ◌⊎◌, inl, inr, List, [], ◌∷◌, length, set, Bool, true, false, Option, Some, None, option_map, ℤ, refl, sym, ap, ◌∙◌, subst, arith, cond, nat_lt, nat_le}
 use Rattle.std.specs.Prelude.{slice_get, ◌==◌}
 use Rattle.std.specs.List.{AllByRecursion}
-use Rattle.std.proofs.lemmas.Option.{same_Some, slice_get_within}
+use Rattle.std.proofs.lemmas.Option.{same_Some}
 use Rattle.std.proofs.lemmas.Bool.Decides.{nat_tests}
 use Rattle.pm_base.specs.Stamps.{stamp_lt, IsBefore}
 use Rattle.pm_base.specs.declared.rows.Entry.{Entry}
@@ -12,7 +12,7 @@ use Rattle.pm_plan.specs.declared.plan.Plan.{Plan}
 use Rattle.pm_model.proofs.Choices.{option-cases}
 use Rattle.pm_model.proofs.Deeds.{deed-waits}
 use Rattle.pm_model.proofs.Retired.{least-none}
-use Rattle.pm_model.proofs.Turns.{Took, took, turn-falls, least-found, least-due, later-rises, all-at}
+use Rattle.pm_model.proofs.Turns.{took, turn-falls, least-found, least-due, later-rises, all-at}
 use Rattle.pm_model.specs.declared.AgentState.{AgentState}
 use Rattle.pm_model.specs.declared.State.{State}
 use Rattle.pm_model.specs.Entries.{IsInOrder, IsOfPlan, IsOwnTime}

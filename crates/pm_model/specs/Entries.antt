@@ -1,6 +1,6 @@
 -- What holds of the entries of a run.
 use Rattle.std.specs.List.{AllByRecursion, filter}
-use Rattle.std.specs.Prelude.{◌≡◌, ◌++◌, ◌≤◌, List, [], ◌∷◌, Bool, false, Some, slice_get}
+use Rattle.std.specs.Prelude.{◌≡◌, ◌++◌, ◌≤◌, List, [], ◌∷◌, false, Some, slice_get}
 use Rattle.pm_base.specs.Stamps.{is_below, IsBefore}
 use Rattle.pm_base.specs.declared.rows.Entry.{Entry}
 use Rattle.pm_base.specs.declared.stamp.Line.{Line}

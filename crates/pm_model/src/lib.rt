@@ -87,6 +87,7 @@ pub fn what_is_below(plan: &ThePlan, line: Line)
 /// run is past the horizon.
 pub fn agents_act_at_their_times(plan: &ThePlan)
     requires { IsWithinLimits plan.now }
-    ensures turn { (s : TheState) (m : Moved) → sequential_turn plan.now s ≡ Some m → IsOwnTime plan.now s m.entry.stamp }
+    ensures turn { (s : TheState) (m : Moved) → sequential_turn plan.now s ≡ Some m →
+        IsOwnTime plan.now s m.entry.stamp }
     ensures run { AllByRecursion (IsOfPlan plan.now) (sequential_run plan.now) }
 {}

@@ -1,5 +1,5 @@
 -- What a run keeps at a turn.
-use Rattle.std.proofs.Common.{◌≡◌, ℕ, ◌<◌, List, set, Bool, true, false, Option, Some, None, IfSome, cond, nat_le, length, refl, sym, ap, ◌∙◌, subst, arith}
+use Rattle.std.proofs.Common.{◌≡◌, ℕ, ◌<◌, List, set, Bool, true, false, Option, Some, None, IfSome, cond, nat_le, length, sym, ap, ◌∙◌, subst, arith}
 use Rattle.std.specs.Prelude.{slice_get}
 use Rattle.std.specs.List.{AllByRecursion}
 use Rattle.std.specs.BTreeSet.{BTreeSet}

@@ -19,6 +19,7 @@ stamp_cmp a b = ordering_then (nat_cmp a.time b.time) (nat_cmp a.agent b.agent)
 abbrev pub has : BTreeSet Stamp → Stamp → Bool
 has due st = contains stamp_cmp due st
 
+-- whether it is that time
 abbrev pub at_time : ℕ → Option ℕ → Bool
 at_time t None = false
 at_time t (Some u) = u == t
@@ -37,10 +38,11 @@ pub record IsRunning (plan : Plan) (s : State) (due : BTreeSet Stamp) : Type 0 w
   pub timely : IsTimely plan s
   pub queue : IsQueue s.agents due
 
--- the set has b, and otherwise what it had, but at a
+-- what a set has without the stamp a
 abbrev pub without : Stamp → (Stamp → Bool) → Stamp → Bool
 without a had q = cond (is_at (stamp_cmp a) q) false (had q)
 
+-- and with the stamp of that agent's next step, where it makes one
 abbrev pub with_next : ℕ → Option ℕ → (Stamp → Bool) → Stamp → Bool
 with_next agent None had q = had q
 with_next agent (Some t) had q = cond (is_at (stamp_cmp (record { time = t; agent = agent })) q) true (had q)

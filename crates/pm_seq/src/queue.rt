@@ -33,7 +33,8 @@ fn enter(due: &mut BTreeSet<Stamp>, agent: u32, next: Option<u64>) -> Result<(),
 
 /// Takes a stamp away, and adds that of its agent's next step. After `Memory` nothing has changed.
 pub fn advance(due: &mut BTreeSet<Stamp>, stamp: Stamp, next: Option<u64>) -> Result<(), Memory>
-    ensures ok { OnOk result ((q : TheStamp) → has due.new q ≡ without stamp (with_next stamp.agent next (has due.old)) q) }
+    ensures ok { OnOk result ((q : TheStamp) → has due.new q ≡
+        without stamp (with_next stamp.agent next (has due.old)) q) }
     ensures err { OnErr result (due.new.keys ≡ due.old.keys) }
 {
     enter(due, stamp.agent, next)?;

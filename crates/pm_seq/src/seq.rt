@@ -1,7 +1,7 @@
 ghost use Rattle.std.specs.Prelude.{◌≡◌, ◌∷◌, ◌↔◌, true, Some, None, [], IfOk, OnErr, MatchOption};
 ghost use Rattle.std.specs.List.{AllByRecursion};
 ghost use Rattle.pm_plan.specs.Limits.{IsWithinLimits};
-ghost use Rattle.pm_model.specs.Runs.{rest, sequential_start, sequential_turn, IsRetired, IsTimely};
+ghost use Rattle.pm_model.specs.Runs.{rest, sequential_run, sequential_start, sequential_turn, IsRetired, IsTimely};
 ghost use Rattle.pm_seq.specs.Queues.{IsRunning};
 
 use crate::queue::{advance, least_stamp, queue_of};
@@ -89,7 +89,8 @@ impl<'a> Seq<'a> {
     /// The run before its first step.
     pub fn new(alloc: Global, plan: &'a Plan) -> Result<Seq<'a>, Memory>
         requires { IsWithinLimits plan.now }
-        ensures { IfOk result (λ s. (s.plan ≡ plan.now) × (s.state ≡ sequential_start plan.now)) }
+        ensures start { IfOk result (λ s. (s.plan ≡ plan.now) × (s.state ≡ sequential_start plan.now)) }
+        ensures left { IfOk result (λ s. rest s.plan s.state ≡ sequential_run plan.now) }
     {
         let state = sequential_start(alloc, plan)?;
         let due = queue_of(alloc, state.agents.as_slice())?;

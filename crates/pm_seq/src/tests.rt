@@ -1,4 +1,5 @@
-ghost use Rattle.std.specs.Prelude.{IfOk};
+ghost use Rattle.std.specs.Prelude.{◌≡◌, ◌≤◌, ◌∷◌, [], length, IfOk};
+ghost use Rattle.pm_base.specs.Layouts.{IsLayout};
 ghost use Rattle.pm_plan.specs.Limits.{IsWithinLimits};
 
 use crate::Seq;
@@ -10,7 +11,9 @@ use pm_plan::{AgentRow, ClpRow, Plan, VarRow};
 use std::alloc::Global;
 use std::test::Fail;
 
-fn one<T: Drop>(alloc: Global, item: T) -> Result<List<T>, Memory> {
+fn one<T: Drop>(alloc: Global, item: T) -> Result<List<T>, Memory>
+    ensures { IfOk result (λ l. l ≡ item ∷ []) }
+{
     let mut items = List::new(alloc);
     items.push(item)?;
     Ok(items)
@@ -75,33 +78,76 @@ fn agent(alloc: Global, program: Program) -> Result<AgentRow, Memory> {
     })
 }
 
+/// One class of one variable.
+fn layout(alloc: Global) -> Result<Layout, Memory>
+    ensures follow { IfOk result IsLayout }
+    ensures one { IfOk result (λ l. length l.classes ≤ 1) }
+{
+    let mut classes = List::new(alloc);
+    classes.push(ClassRow { first: 0, count: 1 })?;
+    Ok(Layout { classes })
+}
+
+/// A plan of one process, one variable and these agents, with time 0 as the only one.
+fn plan_of(
+    layout: Layout,
+    clps: List<ClpRow>,
+    classes: List<Name>,
+    vars: List<VarRow>,
+    agents: List<AgentRow>,
+) -> Plan
+    requires layout { IsLayout layout }
+    requires classes { length layout.classes ≤ 1 }
+    requires clps { length clps ≤ 1 }
+    requires vars { length vars ≤ 1 }
+    requires agents { length agents ≤ 3 }
+    ensures { IsWithinLimits result }
+{
+    Plan {
+        horizon: 0,
+        move_after: 0,
+        clps,
+        layout,
+        classes,
+        vars,
+        agents,
+    }
+}
+
+/// Two agents that add to variable 0, and one that looks at it.
+fn agents(alloc: Global) -> Result<List<AgentRow>, Memory>
+    ensures { IfOk result (λ l. length l ≤ 3) }
+{
+    let mut agents = List::new(alloc);
+    agents.push(agent(alloc, adding(alloc, 3, 0)?)?)?;
+    agents.push(agent(alloc, adding(alloc, 4, -1)?)?)?;
+    agents.push(agent(alloc, reading(alloc)?)?)?;
+    Ok(agents)
+}
+
+fn clp(alloc: Global) -> Result<ClpRow, Memory> {
+    Ok(ClpRow {
+        name: Name::make(alloc, "root")?,
+        parent: None,
+    })
+}
+
+fn var(alloc: Global) -> Result<VarRow, Memory> {
+    Ok(VarRow {
+        name: Name::make(alloc, "c0")?,
+        at: 0,
+        value: value(0, 0),
+    })
+}
+
 /// Three agents at time 0, the only one: two add to variable 0, and the last one looks at it.
 fn adders(alloc: Global) -> Result<Plan, Memory>
     ensures { IfOk result IsWithinLimits }
 {
-    let clp = ClpRow {
-        name: Name::make(alloc, "root")?,
-        parent: None,
-    };
-    let var = VarRow {
-        name: Name::make(alloc, "c0")?,
-        at: 0,
-        value: value(0, 0),
-    };
-    let mut agents = one(alloc, agent(alloc, adding(alloc, 3, 0)?)?)?;
-    agents.push(agent(alloc, adding(alloc, 4, -1)?)?)?;
-    agents.push(agent(alloc, reading(alloc)?)?)?;
-    Ok(Plan {
-        horizon: 0,
-        move_after: 0,
-        clps: one(alloc, clp)?,
-        layout: Layout {
-            classes: one(alloc, ClassRow { first: 0, count: 1 })?,
-        },
-        classes: one(alloc, Name::make(alloc, "cell")?)?,
-        vars: one(alloc, var)?,
-        agents,
-    })
+    let clps = one(alloc, clp(alloc)?)?;
+    let classes = one(alloc, Name::make(alloc, "cell")?)?;
+    let vars = one(alloc, var(alloc)?)?;
+    Ok(plan_of(layout(alloc)?, clps, classes, vars, agents(alloc)?))
 }
 
 fn next(alloc: Global, seq: &mut Seq) -> Result<Entry, Fail> {
