@@ -1,11 +1,11 @@
 -- The key that a walk tells is the least of those that aren't listed.
-use Rattle.std.proofs.Common.{◌≡◌, refl, ap, sym, ◌∙◌, ℕ, Bool, true, false, ◌&&◌, List, [], ◌∷◌, Option, Some, None, Ordering, Less, Equal, Greater, nat_cmp, is_lt, subst, inl, inr}
+use Rattle.std.proofs.Common.{◌≡◌, refl, ap, ℕ, Bool, true, false, ◌&&◌, List, [], ◌∷◌, Some, Ordering, Less, Equal, Greater, nat_cmp, is_lt, subst, inl, inr}
 use Rattle.std.proofs.lemmas.Bool.{and_parts, false≢true}
 use Rattle.std.proofs.lemmas.Cmp.{nat_list_cmp_total}
 use Rattle.std.specs.Cmp.Lexicographic.{slice_cmp}
 use Rattle.std.specs.List.{AllByRecursion}
 use Rattle.std.specs.Prelude.{if◌then◌else◌}
-use Rattle.toml.specs.Data.{Data, Members, no_members, member, is_before, is_sorted, members_are_sorted}
+use Rattle.toml.specs.Data.{Members, no_members, member, is_before, is_sorted, members_are_sorted}
 use Rattle.pm_scenario.specs.Forms.{is_listed, strange}
 use Rattle.pm_scenario.specs.Strangers.{keys_of, IsListedOrAfter}
 

@@ -24,7 +24,8 @@ pub fn worked_texts()
 /// A key that is told as strange isn't listed, and is the least of those that aren't: in a table whose keys ascend each
 /// key is listed, or is this one, or comes after it.
 pub fn strange_keys_are_least()
-    ensures unlisted { (keys : List (List ℕ)) (table : Members) (k : List ℕ) → strange keys table ≡ Some k → is_listed keys k ≡ false }
+    ensures unlisted { (keys : List (List ℕ)) (table : Members) (k : List ℕ) →
+        strange keys table ≡ Some k → is_listed keys k ≡ false }
     ensures least { (keys : List (List ℕ)) (table : Members) (k : List ℕ) → members_are_sorted table ≡ true →
         strange keys table ≡ Some k → AllByRecursion (IsListedOrAfter keys k) (keys_of table) }
 {}
