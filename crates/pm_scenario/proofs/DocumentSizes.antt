@@ -1,14 +1,14 @@
 -- A document has no more elements than its text has bytes.
-use Rattle.std.proofs.Common.{◌≡◌, refl, ap, sym, ◌∙◌, arith, ℕ, zero, suc, ◌+◌, ◌≤◌, ◌==◌, Bool, true, false, ◌&&◌, List, [], ◌∷◌, ◌++◌, length, drop, Option, Some, None, option_map, option_and_then, inl, inr}
-use Rattle.std.proofs.lemmas.Bool.{cases_Bool, and_parts}
+use Rattle.std.proofs.Common.{◌≡◌, refl, arith, ℕ, zero, suc, ◌+◌, ◌≤◌, ◌==◌, Bool, true, false, ◌&&◌, List, [], length, drop, Option, Some, None, option_map, option_and_then}
+use Rattle.std.proofs.lemmas.Bool.{and_parts}
 use Rattle.std.specs.Prelude.{if◌then◌else◌, slice_index}
 use Rattle.toml_parser.specs.Lexical.{Read, first, skip_ws, skip_blank, left_bracket, right_bracket, left_brace, right_brace}
-use Rattle.toml_parser.specs.Strings.{Key, key, starts_string, quoted, recursion_limit}
+use Rattle.toml_parser.specs.Strings.{key, starts_string, quoted, recursion_limit}
 use Rattle.toml_parser.specs.Numbers.{unquoted}
 use Rattle.toml_parser.specs.declared.scalar.Scalar.{Scalar}
 use Rattle.toml_parser.specs.declared.scalar.Scalar.TheVariants.{Boolean, Integer, Float, Datetime}
-use Rattle.toml.specs.Data.{Data, string, array, table, Items, no_items, Members}
-use Rattle.toml.specs.Tables.{Nodes, no_nodes, close, Definition, key_value, std_table, array_table, Expression, put, Document, define}
+use Rattle.toml.specs.Data.{Data, string, array, table, no_items, Members}
+use Rattle.toml.specs.Tables.{Nodes, no_nodes, close, key_value, std_table, array_table, Expression, put, Document, define}
 use Rattle.toml.specs.Parse.{read_map, after_byte, after_element, keyval, items, members, scalar_data, atom, val, header_key, expression, ends_line, line, lines, skip_bom, parse_document}
 use Rattle.pm_scenario.proofs.Sizes.{size, items_size, members_size, nodes_size}
 use Rattle.pm_scenario.proofs.TextSizes.{Costs, free, one, costs_none, costs_some, costs_more, costs_map, costs_then, costs_if, shorter_if, dropped, first_there, twice, blank, ws, quoted_costs, unquoted_costs, key_costs, byte_costs, charge, pair_charge, keyval_costs, element_then, items_costs}

@@ -1,17 +1,13 @@
 -- A text of fewer than 2 ^ 32 bytes has few classes, variables and agents.
-use Rattle.std.proofs.Common.{◌≡◌, refl, ap, sym, ◌∙◌, arith, ℕ, ◌≤◌, ◌<◌, ◌^◌, Bool, true, false, List, length, Option, Some, None, Result, Ok, Err, cond, inl, inr}
-use Rattle.std.proofs.lemmas.Bool.{cases_Bool}
+use Rattle.std.proofs.Common.{◌≡◌, refl, arith, ℕ, ◌<◌, ◌^◌, Bool, true, false, List, length, Option, Some, None, Ok, Err}
 use Rattle.std.specs.Str.{is_utf8}
 use Rattle.toml.specs.Data.{Members}
 use Rattle.toml.specs.Parse.{parse_document}
-use Rattle.pm_plan.specs.Plans.{all_vars}
 use Rattle.pm_scenario.specs.Fewness.{IsFew}
-use Rattle.pm_scenario.specs.Scenarios.{draft_of, draft_of_root, draft_of_document}
+use Rattle.pm_scenario.specs.Scenarios.{draft_of, draft_of_document}
 use Rattle.pm_scenario.specs.declared.draft.Draft.{Draft}
-use Rattle.pm_scenario.specs.declared.fault.ScenarioFault.{ScenarioFault}
 use Rattle.pm_scenario.specs.declared.fault.ScenarioFault.TheVariants as fault
 use Rattle.std.specs.Prelude.{if◌then◌else◌}
-use Rattle.pm_scenario.proofs.Sizes.{members_size}
 use Rattle.pm_scenario.proofs.DraftSizes.{HasSize, draft_size}
 use Rattle.pm_scenario.proofs.DocumentSizes.{document_size}
 

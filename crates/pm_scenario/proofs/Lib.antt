@@ -7,3 +7,4 @@ pub mod NodeSizes
 pub mod DocumentSizes
 pub mod Fewness
 pub mod Worked
+pub mod Strangers

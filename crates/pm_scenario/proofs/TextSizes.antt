@@ -1,19 +1,14 @@
 -- A document has no more elements than its text has bytes.
-use Rattle.std.proofs.Common.{◌≡◌, refl, ap, sym, ◌∙◌, arith, ℕ, zero, suc, ◌+◌, ◌≤◌, ◌==◌, Bool, true, false, ◌&&◌, ◌||◌, List, [], ◌∷◌, ◌++◌, length, take, drop, Option, Some, None, option_map, option_and_then, is_some, unwrap_or, length-drop, eqb-true, Ordering, Less, Equal, Greater, nat_cmp, inl, inr}
-use Rattle.std.specs.Prelude.{if◌then◌else◌, nat_lt, nat_le, slice_index, encode_utf8}
-use Rattle.std.specs.Cmp.Lexicographic.{slice_cmp}
-use Rattle.std.specs.Ordering.{match_ordering}
-use Rattle.std.specs.List.{prefix_len}
+use Rattle.std.proofs.Common.{◌≡◌, refl, arith, ℕ, zero, suc, ◌+◌, ◌≤◌, ◌==◌, Bool, true, false, ◌&&◌, ◌||◌, List, [], ◌∷◌, ◌++◌, length, take, drop, Option, Some, None, option_map, option_and_then, is_some, unwrap_or, length-drop, eqb-true, inl, inr}
+use Rattle.std.specs.Prelude.{if◌then◌else◌, nat_lt, slice_index, encode_utf8}
 use Rattle.std.proofs.lemmas.Bool.{cases_Bool, false≢true, true≢false}
-use Rattle.std.proofs.lemmas.Bool.Decides.{nat_tests}
-use Rattle.toml_parser.specs.Lexical.{Read, first, skip_ws, skip_from, skip_blank, skip_lines, skip_turn, split_while, is_bare, starts_newline, backslash, comma, equals, left_bracket, right_bracket, left_brace, right_brace, quote, apostrophe, dot}
+use Rattle.toml_parser.specs.Lexical.{Read, first, skip_ws, skip_from, skip_blank, skip_lines, skip_turn, split_while, is_bare, starts_newline, backslash, comma, equals, right_bracket, dot}
 use Rattle.toml_parser.specs.Strings.{Key, hex_len, hex_escape, escape_char, simple_escape, escape, is_plain, at_delims, special, prepend, after_piece, body, trim_newline, one_line, quoted, starts_string, simple_key, key_after, key, recursion_limit}
 use Rattle.toml_parser.specs.Numbers.{unquoted, word_len, word_value}
 use Rattle.toml_parser.specs.declared.scalar.Scalar.{Scalar}
-use Rattle.toml.specs.Data.{Data, string, integer, float, boolean, datetime, array, table, Items, no_items, item, Members, no_members, member, push_item, same_key}
-use Rattle.toml.specs.Tables.{Origin, implicit, dotted, header, Node, Nodes, no_nodes, node, value, open_table, open_array, get_node, insert, replace, close, close_node, Edit, header_node, dot_node, by_header, by_dot, along_header, along_dots, Definition, key_value, std_table, array_table, Expression, new_node, redefine, at_found, at_key, put, Document, define_as, define}
-use Rattle.toml.specs.Parse.{read_map, after_byte, after_element, key_equals, keyval, items, members, scalar_data, atom, val, header_key, expression, ends_line, line, lines, skip_bom, parse_document}
-use Rattle.pm_scenario.proofs.Sizes.{size, items_size, members_size}
+use Rattle.toml.specs.Data.{Data, Items, no_items, item, push_item}
+use Rattle.toml.specs.Parse.{read_map, after_byte, after_element, key_equals, keyval, items}
+use Rattle.pm_scenario.proofs.Sizes.{size, items_size}
 
 -- what was read costs no more than n, together with the text that is left
 unfoldable pub Costs : {A : Type 0} → (A → ℕ) → ℕ → Read A → Type 0

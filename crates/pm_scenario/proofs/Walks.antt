@@ -1,5 +1,5 @@
 -- Laws of a walk.
-use Rattle.std.proofs.Common.{◌≡◌, refl, ap, sym, ◌∙◌, ℕ, ◌+◌, ◌<◌, drop, get_or, length, Bool, true, false, List, [], ◌∷◌, ◌++◌, append_assoc, Ok, Err, Result}
+use Rattle.std.proofs.Common.{◌≡◌, refl, ap, sym, ℕ, ◌+◌, ◌<◌, drop, get_or, length, Bool, true, false, List, [], ◌∷◌, ◌++◌, append_assoc, Ok, Err, Result}
 use Rattle.std.proofs.lemmas.Str.{is_utf8-from_IsUtf8, IsUtf8-from_is_utf8}
 use Rattle.std.specs.Str.{is_utf8, IsUtf8}
 use Rattle.pm_scenario.specs.declared.fault.ScenarioFault.{ScenarioFault}

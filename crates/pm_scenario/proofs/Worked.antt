@@ -1,5 +1,5 @@
 -- Worked texts.
-use Rattle.std.proofs.Common.{◌≡◌, refl, arith, ℕ, zero, suc, ◌<◌, nat_lt, Bool, true, List, [], ◌∷◌, Option, Some, None, Result, Ok, Err, codes, pos}
+use Rattle.std.proofs.Common.{◌≡◌, refl, arith, ℕ, zero, suc, nat_lt, Bool, true, List, [], ◌∷◌, Some, None, Ok, Err, codes, pos}
 use Rattle.std.specs.List.{list_all}
 use Rattle.std.specs.Fmt.{digits}
 use Rattle.std.specs.Str.{IsAscii, is_utf8}
@@ -14,7 +14,7 @@ use Rattle.pm_plan.specs.Plans as plans
 use Rattle.pm_plan.specs.declared.parts.PlanParts.{PlanParts}
 use Rattle.pm_rules.specs.Rules.{parsed}
 use Rattle.pm_rules.specs.Samples.{worked_program, worked_table, worked_text}
-use Rattle.pm_scenario.specs.Forms.{no_strange, all_tables, elements, tables, ◌>>=◌}
+use Rattle.pm_scenario.specs.Forms.{no_strange, all_tables, elements, tables}
 use Rattle.pm_scenario.specs.Samples.{worked_scenario, worked_plan, later_version, two_strange_keys, table_and_number, empty_table_and_number, number_as_text}
 use Rattle.pm_scenario.specs.Scenarios.{clp_form, class_form, var_form, agent_form, root_form, draft_of_root, draft_of, agent_parts, parts_of, plan_of}
 use Rattle.pm_scenario.specs.declared.draft.Draft.{Draft}

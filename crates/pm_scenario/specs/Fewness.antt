@@ -1,5 +1,5 @@
 -- Drafts that numbers of 32 bits can count.
-use Rattle.std.specs.Prelude.{ℕ, ◌^◌, ◌<◌, length}
+use Rattle.std.specs.Prelude.{◌^◌, ◌<◌, length}
 use Rattle.pm_plan.specs.Plans.{all_vars}
 use Rattle.pm_scenario.specs.declared.draft.Draft.{Draft}
 

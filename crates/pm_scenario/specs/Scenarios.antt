@@ -1,7 +1,7 @@
 -- Which keys a scenario's tables have, and the plan of a text.
 use Rattle.std.specs.Prelude.{ℕ, ◌+◌, ◌==◌, length, map, List, [], ◌∷◌, Option, Some, None, Result, Ok, Err, ℤ, pos, negsuc, codes, if◌then◌else◌}
 use Rattle.std.specs.Str.{is_utf8}
-use Rattle.toml.specs.Data.{Data, Members}
+use Rattle.toml.specs.Data.{Members}
 use Rattle.toml.specs.Parse.{parse_document}
 use Rattle.pm_base.specs.declared.layout.ClassRow.{ClassRow}
 use Rattle.pm_base.specs.declared.program.Program.{Program}

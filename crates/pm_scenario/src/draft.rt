@@ -14,7 +14,7 @@ use std::alloc::Global;
 use toml::Table;
 
 /// A version of scenarios and of their rules.
-#[derive(Clone, Copy, Debug, PartialEq, Eq)]
+#[derive(Clone, Copy)]
 pub enum Version {
     One,
     Two,
@@ -32,7 +32,7 @@ impl Version {
 }
 
 /// An agent whose rule is still a text.
-#[derive(Debug, Drop)]
+#[derive(Drop)]
 pub struct AgentText {
     pub name: Name,
     pub home: Name,
@@ -41,7 +41,7 @@ pub struct AgentText {
 }
 
 /// What a scenario says, each rule still a text.
-#[derive(Debug, Drop)]
+#[derive(Drop)]
 pub struct Draft {
     pub version: Version,
     pub horizon: u64,

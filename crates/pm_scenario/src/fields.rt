@@ -87,7 +87,8 @@ pub fn optional_text_at(
     key: &str,
     table: &Table,
 ) -> Result<Option<Name>, ScenarioFault>
-    ensures { Gives result (field_at (default key.now (optional text) None) (prefix_of place.now) (table_view table.now)) }
+    ensures { Gives result
+        (field_at (default key.now (optional text) None) (prefix_of place.now) (table_view table.now)) }
 {
     match find(table, key) {
         Some(value) => match value.as_str() {
@@ -138,7 +139,8 @@ pub fn count_at(
     absent: Option<u64>,
     table: &Table,
 ) -> Result<u64, ScenarioFault>
-    ensures { Gives result (field_at (record { key = key.now; kind = count; absent = absent }) (prefix_of place.now) (table_view table.now)) }
+    ensures { Gives result (field_at (record { key = key.now; kind = count; absent = absent })
+        (prefix_of place.now) (table_view table.now)) }
 {
     match find(table, key) {
         Some(value) => match as_count(value) {

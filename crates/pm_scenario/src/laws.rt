@@ -1,6 +1,10 @@
-ghost use Rattle.std.specs.Prelude.{◌≡◌, Ok, Err, codes};
+ghost use Rattle.std.specs.Prelude.{◌≡◌, ℕ, List, Some, Ok, Err, true, false, codes};
+ghost use Rattle.std.specs.List.{AllByRecursion};
+ghost use Rattle.toml.specs.Data.{Members, members_are_sorted};
+ghost use Rattle.pm_scenario.specs.Forms.{is_listed, strange};
 ghost use Rattle.pm_scenario.specs.Samples.{worked_scenario, worked_plan, later_version, two_strange_keys, table_and_number, empty_table_and_number, number_as_text};
 ghost use Rattle.pm_scenario.specs.Scenarios.{plan_of};
+ghost use Rattle.pm_scenario.specs.Strangers.{keys_of, IsListedOrAfter};
 ghost use Rattle.pm_scenario.specs.declared.fault.ScenarioFault.TheVariants as fault;
 
 use pm_rules::some_texts;
@@ -16,3 +20,12 @@ pub fn worked_texts()
 {
     some_texts();
 }
+
+/// A key that is told as strange isn't listed, and is the least of those that aren't: in a table whose keys ascend each
+/// key is listed, or is this one, or comes after it.
+pub fn strange_keys_are_least()
+    ensures unlisted { (keys : List (List ℕ)) (table : Members) (k : List ℕ) →
+        strange keys table ≡ Some k → is_listed keys k ≡ false }
+    ensures least { (keys : List (List ℕ)) (table : Members) (k : List ℕ) → members_are_sorted table ≡ true →
+        strange keys table ≡ Some k → AllByRecursion (IsListedOrAfter keys k) (keys_of table) }
+{}

@@ -14,5 +14,5 @@ mod tables;
 mod tests;
 
 pub use fault::ScenarioFault;
-pub use laws::worked_texts;
+pub use laws::{strange_keys_are_least, worked_texts};
 pub use scenario::read;

@@ -7,7 +7,7 @@ use std::alloc::Global;
 
 /// Where a table stands in a document: it is the root, or an element of an array of tables whose key stands behind
 /// that prefix.
-#[derive(Clone, Copy, Debug)]
+#[derive(Clone, Copy)]
 pub enum Place<'a> {
     Root,
     Element {

@@ -97,7 +97,8 @@ fn agent_parts(
     requires vars { length names.now.vars ≡ var_count (class_rows names.now) }
     requires few { length agents < 2 ^ 32 }
     ensures parts { Gives result (agent_parts names.now version 0 agents) }
-    ensures fit { IfOk result (λ ps. list_all (λ (a : Agent). fits a.program (record { classes = class_rows names.now })) ps ≡ true) }
+    ensures fit { IfOk result (λ ps.
+        list_all (λ (a : Agent). fits a.program (record { classes = class_rows names.now })) ps ≡ true) }
 {
     let mut parts = List::new(alloc);
     let mut index = 0;

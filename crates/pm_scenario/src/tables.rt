@@ -105,7 +105,8 @@ pub fn tables_at<T: FromTable>(
     key: &str,
     table: &Table,
 ) -> Result<List<T>, ScenarioFault>
-    ensures { Gives result (field_at (default key.now (tables T.form) []) (prefix_of place.now) (table_view table.now)) }
+    ensures { Gives result
+        (field_at (default key.now (tables T.form) []) (prefix_of place.now) (table_view table.now)) }
 {
     match find(table, key) {
         Some(value) => {

@@ -177,13 +177,14 @@ const TEXTS: &[(&str, &str)] = &[
         "a plan",
     ),
     (
-        "version = 1\nhorizon = 10\n[[clp]]\nname = 'root'\n[[clp]]\nname = 'p'\nparent = 'q'\n[[clp]]\nname = 'q'\nparent = 'p'",
+        "version = 1\nhorizon = 10\n[[clp]]\nname = 'root'\n[[clp]]\nname = 'p'\nparent = 'q'\n\
+        [[clp]]\nname = 'q'\nparent = 'p'",
         "plan: Tree { clp: 1 }",
     ),
     // the rules in the order of the agents, and all of them before the plan
     (
-        "version = 1\nhorizon = 0\nagent = [{ name = 'a', home = '', rule = '' }, { name = 'a', home = '', rule = 'else' }, \
-        { name = '', home = '', rule = 'x' }]",
+        "version = 1\nhorizon = 0\nagent = [{ name = 'a', home = '', rule = '' }, \
+        { name = 'a', home = '', rule = 'else' }, { name = '', home = '', rule = 'x' }]",
         "rule 1: Nesting { line: 1 }",
     ),
 ];

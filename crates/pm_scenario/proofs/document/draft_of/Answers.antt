@@ -1,4 +1,4 @@
-use Rattle.std.proofs.Common.{rules, refl}
+use Rattle.std.proofs.Common.{refl}
 use Rattle.pm_scenario.specs.Scenarios.{draft_of}
 use Rattle.pm_scenario.proofs.Walks.{not_text}
 use Rattle.pm_scenario.proofs.document.draft_of.Goals as goal

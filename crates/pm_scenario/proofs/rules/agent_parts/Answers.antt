@@ -1,9 +1,7 @@
-use Rattle.std.proofs.Common.{◌≡◌, ◌∙◌, ap, sym, arith, [], ◌∷◌, ◌++◌, length, drop, get_or, Ok}
+use Rattle.std.proofs.Common.{◌∙◌, ap, arith, length}
 use Rattle.std.proofs.lemmas.Grind.{common_steps}
-use Rattle.std.proofs.lemmas.List.{drop_more}
 use Rattle.std.proofs.lemmas.Iterator.Adapters.{YieldsList-from_vec}
 use Rattle.std.proofs.lemmas.Iterator.Consumers.{YieldsList-turn}
-use Rattle.pm_scenario.specs.Scenarios.{agent_parts}
 use Rattle.pm_scenario.proofs.Walks.{agents_more}
 use Rattle.pm_scenario.proofs.rules.agent_parts.Goals as goal
 

@@ -1,4 +1,4 @@
-use Rattle.std.proofs.Common.{◌≡◌, true, length, List, drop}
+use Rattle.std.proofs.Common.{◌≡◌, true, length, drop}
 use Rattle.std.specs.List.{list_all}
 use Rattle.pm_base.specs.Fits.{fits}
 use Rattle.pm_rules.specs.Reading.{class_rows}

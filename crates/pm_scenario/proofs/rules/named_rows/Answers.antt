@@ -1,4 +1,4 @@
-use Rattle.std.proofs.Common.{◌≡◌, ◌∙◌, ap, sym, arith, [], ◌∷◌, ◌++◌, length}
+use Rattle.std.proofs.Common.{arith}
 use Rattle.std.proofs.lemmas.Grind.{common_steps}
 use Rattle.pm_scenario.proofs.NamedRows.{rows_more, vars_more, vars_most}
 use Rattle.pm_scenario.proofs.rules.named_rows.Goals as goal

@@ -1,8 +1,7 @@
-use Rattle.std.proofs.Common.{rules, ◌≡◌, ◌∙◌, ap, sym, arith, length, true, List, ℕ}
+use Rattle.std.proofs.Common.{rules, ◌≡◌, ◌∙◌, ap, sym, arith, length, List}
 use Rattle.std.specs.List.{list_all}
 use Rattle.pm_base.specs.Fits.{fits}
 use Rattle.pm_base.specs.declared.layout.ClassRow.{ClassRow}
-use Rattle.pm_plan.specs.Plans.{rules_fit}
 use Rattle.pm_plan.specs.declared.parts.AgentPart.{AgentPart}
 use Rattle.pm_rules.specs.Reading.{class_rows}
 use Rattle.pm_scenario.specs.Scenarios.{named_rows, table_of}

@@ -1,4 +1,4 @@
-use Rattle.std.proofs.Common.{rules, ◌≡◌}
+use Rattle.std.proofs.Common.{rules}
 use Rattle.pm_scenario.proofs.Fewness.{few_of}
 use Rattle.pm_scenario.proofs.scenario.read.Goals as goal
 
