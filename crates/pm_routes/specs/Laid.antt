@@ -1,0 +1,14 @@
+-- How the counts are laid out.
+use Rattle.std.specs.Prelude.{ℕ, suc, ◌<◌, ◌^◌, ◌≡◌, List, [], length, get_or}
+use Rattle.pm_routes.specs.Routings.{total}
+
+-- each count is a number of 64 bits, as is how many there are, and their sum is kept
+pub record IsSummed (counts : List ℕ) (together : ℕ) : Type 0 where
+  pub few : length counts < 2 ^ 64
+  pub small : (k : ℕ) → get_or counts k 0 < 2 ^ 64
+  pub sum : together ≡ total counts
+
+-- each variable has its counts, one for each port and the local one
+pub record IsLaid {W : Type 0} (ways : List W) (ports : List ℕ) (counts : List (List ℕ)) : Type 0 where
+  pub each : length counts ≡ length ways
+  pub rows : (var : ℕ) → var < length ways → length (get_or counts var []) ≡ suc (length ports)
