@@ -1,13 +1,11 @@
-// A library with one function.
+//! Which values of a class may stand behind a tree port, at each stamp.
 #![tactic(auto)]
 
-ghost use Rattle.std.specs.Prelude.{◌≡◌};
-ghost use Rattle.pm_ranges.specs.Echo.{echo_of};
+mod laws;
+mod piece;
 
-// The `ensures` clause is the contract: what `echo` returns is `echo_of` of its argument, a definition
-// in `specs/Echo.antt`, which a caller's clause can cite too.
-pub fn echo(x: usize) -> usize
-    ensures { result ≡ echo_of x }
-{
-    x
-}
+pub use laws::{
+    bounds_are_joins, covering_is_told, fitting_is_kept, growing_joins, sample_bounds,
+    trimming_keeps,
+};
+pub use piece::Piece;
