@@ -1,3 +1,4 @@
 pub mod Boxes
 pub mod Covers
+pub mod Grows
 pub mod Parts
