@@ -11,7 +11,7 @@ use Rattle.pm_base.specs.declared.value.Window.{Window}
 use Rattle.pm_ranges.specs.declared.piece.Piece.{Piece}
 use Rattle.pm_ranges.specs.Joins.{joined, lies_in}
 use Rattle.pm_ranges.specs.Known.{Known, bound_of, bound_at, covered_at, ends_covered, last_covered, is_end, covers, IsCovered}
-use Rattle.pm_ranges.proofs.Parts.{lt-le, le-lt, lt-not, never-itself, le-trans}
+use Rattle.pm_ranges.proofs.Parting.{lt-le, le-lt, lt-not, never-itself, le-trans}
 
 -- a stamp no earlier than one that may be asked for may be
 pub asked-later : (l : Line) (s t : Stamp) → is_below s l ≡ false → stamp_lt t s ≡ false → is_below t l ≡ false

@@ -13,9 +13,9 @@ use Rattle.pm_ranges.specs.declared.piece.Piece.{Piece}
 use Rattle.pm_ranges.specs.Fits.{BoundsAreJoins, CoveringIsTold, Fits, FittingIsKept, GrowingJoins, TrimmingKeeps}
 use Rattle.pm_ranges.specs.Joins.{Row, AllIn, IsIn, join_at, joined, lies_in, within}
 use Rattle.pm_ranges.specs.Known.{Known, Grows, IsCovered, bound_of, bound_at, covers, grown, grown_all, higher, nothing_known, parted, parted_at, raised, raised_rest, trimmed}
-use Rattle.pm_ranges.proofs.Boxes.{within-trans, join-left, join-right, join-least, joined-is, joined-differs, within-told, within-from}
+use Rattle.pm_ranges.proofs.Windows.{within-trans, join-left, join-right, join-least, joined-is, joined-differs, within-told, within-from}
 use Rattle.pm_ranges.proofs.Covers.{covers-told, covers-from, missing}
-use Rattle.pm_ranges.proofs.Parts.{Ends, Ready, lt-le, parted-ends, parted-keeps, parted-same, raised-at}
+use Rattle.pm_ranges.proofs.Parting.{Ends, Ready, lt-le, parted-ends, parted-keeps, parted-same, raised-at}
 
 pub parted_at-same : (o : Option Stamp) (ps : List Piece) (rest : Option Window) (s : Stamp) → bound_of (parted_at o ps rest) rest s ≡ bound_of ps rest s
 parted_at-same None ps rest s = refl

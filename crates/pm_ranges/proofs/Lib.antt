@@ -1,4 +1,5 @@
-pub mod Boxes
 pub mod Covers
 pub mod Grows
-pub mod Parts
+pub mod Laying
+pub mod Parting
+pub mod Windows

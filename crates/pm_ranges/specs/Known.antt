@@ -1,5 +1,5 @@
 -- What is known of one class behind one port: a bound for each stamp.
-use Rattle.std.specs.Prelude.{ℕ, ◌≡◌, Bool, true, false, not, ◌&&◌, ◌||◌, if◌then◌else◌, is_none, List, [], ◌∷◌, filter, Option, Some, None}
+use Rattle.std.specs.Prelude.{ℕ, ◌≡◌, Bool, true, false, not, ◌&&◌, ◌||◌, if◌then◌else◌, is_none, List, [], ◌∷◌, map, filter, Option, Some, None}
 use Rattle.pm_base.specs.Stamps.{stamp_lt, is_below, line_lt, holds}
 use Rattle.pm_base.specs.declared.stamp.Interval.{Interval}
 use Rattle.pm_base.specs.declared.stamp.Line.{Line}
@@ -41,8 +41,7 @@ abbrev pub raised_one : Interval → Window → Piece → Piece
 raised_one when w p = if holds when p.until then record p { window = Some (joined w p.window) } else p
 
 abbrev pub raised : Interval → Window → List Piece → List Piece
-raised when w [] = []
-raised when w (p ∷ ps) = raised_one when w p ∷ raised when w ps
+raised when w ps = map (raised_one when w) ps
 
 -- and to the bound behind them, where the interval has no end
 abbrev pub raised_rest : Interval → Window → Option Window → Option Window

@@ -1,0 +1,42 @@
+ghost use Rattle.std.specs.Prelude.{◌≡◌, ◌&&◌, int_le, is_none, if◌then◌else◌, Some, false};
+ghost use Rattle.pm_base.specs.Windows.{is_inverted};
+ghost use Rattle.pm_ranges.specs.Joins.{joined, lies_in, within};
+ghost use Rattle.pm_ranges.specs.Laid.{Upright};
+
+use pm_base::Window;
+
+/// Whether the ends of the first window are between those of the second.
+#[tactic(auto, using(crate::proofs::Windows::coordinates))]
+pub fn within(a: &Window, b: &Window) -> bool
+    ensures { result ≡ within a.now b.now }
+{
+    between(a.x0, a.x1, b.x0, b.x1) && between(a.y0, a.y1, b.y0, b.y1)
+}
+
+fn between(a0: i64, a1: i64, b0: i64, b1: i64) -> bool
+    ensures { result ≡ (int_le b0 a0 && int_le a1 b1) }
+{
+    b0 <= a0 && a1 <= b1
+}
+
+/// Whether the window is within the bound; where there is none, it isn't.
+pub fn lies_in(window: &Window, bound: &Option<Window>) -> bool
+    ensures { result ≡ lies_in window.now bound.now }
+{
+    match bound {
+        Some(bound) => within(window, bound),
+        None => false,
+    }
+}
+
+/// The window joined with the bound, where there is one.
+pub fn joined(window: &Window, bound: &Option<Window>) -> Window
+    requires window { is_inverted window.now ≡ false }
+    requires bound { Upright bound.now }
+    ensures { result ≡ joined window.now bound.now }
+{
+    match bound {
+        Some(bound) => window.join(bound),
+        None => *window,
+    }
+}
