@@ -147,3 +147,9 @@ fitting-is-kept b s u = record {
   covered = λ when w c asked h f. fits-lies w (bound_at b s) u (covers-told b when w c s asked h) f;
   trimmed = λ l asked. fits-trimmed b s u l asked;
 }
+
+pub told-covered : (b : Known) (when : Interval) (w : Window) (r : Bool) → r ≡ covers b when w → IsTrue r ↔ IsCovered b when w
+told-covered b when w r is = (λ h. covers-told b when w (sym is ∙ h), λ h. is ∙ covers-from b when w h)
+
+pub told-grown : (b : Known) (when : Interval) (w : Window) → covers b when w ≡ false → IsTrue true ↔ Grows when w b
+told-grown b when w c = (λ _. grows-from when w b c, λ _. refl)

@@ -206,3 +206,17 @@ no_lowest (p ∷ ps) = (refl, no_lowest ps)
 
 pub covers-same : (b : Known) (when : Interval) (w : Window) → Rising b.pieces → pieces_cover b.line when w b.pieces ≡ ends_covered b when w b.pieces
 covers-same b when w r = covers-in b when w None b.pieces r (no_lowest b.pieces) (λ t k. refl)
+
+-- the same of pieces that were lent
+pub covers-lent : (k b : Known) (when : Interval) (w : Window) (items : List Piece) (cover : Bool) → k ≡ b → Rising k.pieces → items ≡ k.pieces → cover ≡ pieces_cover k.line when w items → cover ≡ ends_covered b when w b.pieces
+covers-lent k b when w items cover same r lent is =
+    is ∙ ap (pieces_cover k.line when w) lent ∙ covers-same k when w r ∙ ap (λ (z : Known). ends_covered z when w z.pieces) same
+
+-- where the piece was put into a copy
+pub parted-put : (e : Stamp) (ps items : List Piece) (rest o : Option Window) (k : ℕ) → items ≡ ps → k ≡ before e ps → o ≡ bound_of ps rest e → ends_at e (drop k ps) ≡ false
+    → take k items ++ record { until = e; window = o } ∷ drop k items ≡ parted e ps rest
+parted-put e ps items rest o k is at own there =
+    ap (λ xs. take k xs ++ record { until = e; window = o } ∷ drop k xs) is
+        ∙ ap (λ j. take j ps ++ record { until = e; window = o } ∷ drop j ps) at
+        ∙ ap (λ z. take (before e ps) ps ++ record { until = e; window = z } ∷ drop (before e ps) ps) own
+        ∙ parted-here e ps rest (subst (λ j. ends_at e (drop j ps) ≡ false) at there)

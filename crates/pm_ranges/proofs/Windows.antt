@@ -3,14 +3,12 @@ use Rattle.std.proofs.Common.{◌≡◌, refl, ℤ, ◌≤ℤ◌, Bool, true, fa
 use Rattle.std.specs.Prelude.{int_le}
 use Rattle.std.specs.Int.{int_min, int_max}
 use Rattle.std.proofs.lemmas.Bool.{and_parts, and_from}
-use Rattle.std.proofs.lemmas.Int.{ints, clamps, to_z-of_z}
+use Rattle.std.proofs.lemmas.Int.{ints, clamps}
 use Rattle.pm_base.specs.Windows.{Inside, Within, is_inverted, join_of}
 use Rattle.pm_base.specs.declared.value.Value.{Value}
 use Rattle.pm_base.specs.declared.value.Window.{Window}
 use Rattle.pm_base.proofs.Boxes.{upright-x, upright-y}
 use Rattle.pm_ranges.specs.Joins.{within, joined, lies_in}
-
-pub ruleset coordinates = (to_z-of_z)
 
 -- the four ends of one window between those of another
 pub record Sides (a b : Window) : Type 0 where

@@ -1,4 +1,4 @@
-ghost use Rattle.std.specs.Prelude.{◌≡◌, ◌&&◌, int_le, is_none, if◌then◌else◌, Some, false};
+ghost use Rattle.std.specs.Prelude.{◌≡◌, ◌&&◌, int_le, false};
 ghost use Rattle.pm_base.specs.Windows.{is_inverted};
 ghost use Rattle.pm_ranges.specs.Joins.{joined, lies_in, within};
 ghost use Rattle.pm_ranges.specs.Laid.{Upright};
@@ -6,17 +6,22 @@ ghost use Rattle.pm_ranges.specs.Laid.{Upright};
 use pm_base::Window;
 
 /// Whether the ends of the first window are between those of the second.
-#[tactic(auto, using(crate::proofs::Windows::coordinates))]
 pub fn within(a: &Window, b: &Window) -> bool
     ensures { result ≡ within a.now b.now }
 {
-    between(a.x0, a.x1, b.x0, b.x1) && between(a.y0, a.y1, b.y0, b.y1)
+    across(a, b) && along(a, b)
 }
 
-fn between(a0: i64, a1: i64, b0: i64, b1: i64) -> bool
-    ensures { result ≡ (int_le b0 a0 && int_le a1 b1) }
+fn across(a: &Window, b: &Window) -> bool
+    ensures { result ≡ (int_le b.now.x0 a.now.x0 && int_le a.now.x1 b.now.x1) }
 {
-    b0 <= a0 && a1 <= b1
+    b.x0 <= a.x0 && a.x1 <= b.x1
+}
+
+fn along(a: &Window, b: &Window) -> bool
+    ensures { result ≡ (int_le b.now.y0 a.now.y0 && int_le a.now.y1 b.now.y1) }
+{
+    b.y0 <= a.y0 && a.y1 <= b.y1
 }
 
 /// Whether the window is within the bound; where there is none, it isn't.
