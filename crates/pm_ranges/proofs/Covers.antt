@@ -148,6 +148,7 @@ missing-rest b when w is not_end c = go b.line refl when.from refl
       and_from (is_after when.from s) _ from (subst (λ o. is_until o s ≡ true) (sym is) refl),
       subst (λ z. lies_in w z ≡ false) (sym rest) c,
     )
+
     go : (l : Line) → b.line ≡ l → (o : Option Stamp) → when.from ≡ o → Missing b when w
     go line.End e o f = absurd (let m = subst (λ z. is_end z ≡ false) e not_end in cc)
     go (line.At x) e None f = (let l = late b.pieces b.rest x in found x l.0 (line.At x) e (lt-not x l.0 l.1) (subst (λ o. is_after o l.0 ≡ true) (sym f) refl) l.2)

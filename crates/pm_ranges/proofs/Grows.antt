@@ -37,7 +37,7 @@ pub raised-bound : (when : Interval) (w : Window) (ps : List Piece) (rest : Opti
 raised-bound when w ps rest s =
     let same = parted_at-same when.until (parted_at when.from ps rest) rest s ∙ parted_at-same when.from ps rest s in
     raised-at when w (parted_at when.until (parted_at when.from ps rest) rest) rest s (ready-kept when.from when.until s ps rest (ready-parted when.from s ps rest)) (ready-parted when.until s (parted_at when.from ps rest) rest)
-        ∙ ap (λ o. if holds when s then Some (joined w o) else o) same
+    ∙ ap (λ o. if holds when s then Some (joined w o) else o) same
 
 pub grown-line : (when : Interval) (w : Window) (b : Known) → (grown when w b).line ≡ b.line
 grown-line when w b = cond_both (covers b when w) b (record b { pieces = raised when w (parted_at when.until (parted_at when.from b.pieces b.rest) b.rest); rest = raised_rest when w b.rest }) (λ (k : Known). k.line ≡ b.line) (λ _. refl) (λ _. refl)
@@ -104,8 +104,8 @@ join-all (r ∷ rs) s u =
     let again = join-all rs s u in
     let parts = is-in-joined r.window (join_at rs s) u in
     cond_both (holds r.when s) (Some (joined r.window (join_at rs s))) (join_at rs s) (λ o. IsIn o u ↔ AllIn (r ∷ rs) s u)
-        (λ h. (λ i. (λ _. (parts.0 i).1, again.0 (parts.0 i).0), λ a. parts.1 (again.1 a.1, a.0 h)))
-        (λ h. (λ i. (λ k. absurd (false≢true (sym h ∙ k)), again.0 i), λ a. again.1 a.1))
+    (λ h. (λ i. (λ _. (parts.0 i).1, again.0 (parts.0 i).0), λ a. parts.1 (again.1 a.1, a.0 h)))
+    (λ h. (λ i. (λ k. absurd (false≢true (sym h ∙ k)), again.0 i), λ a. again.1 a.1))
 
 grown_all-line : (rows : List Row) → (grown_all rows).line ≡ line.At (record { time = 0; agent = 0 })
 grown_all-line [] = refl
@@ -118,7 +118,7 @@ pub joins-of : (rows : List Row) (s : Stamp) → bound_at (grown_all rows) s ≡
 joins-of [] s = refl
 joins-of (r ∷ rs) s =
     grown-bound r.when r.window (grown_all rs) s (subst (λ l. is_below s l ≡ false) (sym (grown_all-line rs)) (never-below s))
-        ∙ ap (λ o. if holds r.when s then Some (joined r.window o) else o) (joins-of rs s)
+    ∙ ap (λ o. if holds r.when s then Some (joined r.window o) else o) (joins-of rs s)
 
 pub bounds-are-joins : BoundsAreJoins
 bounds-are-joins = record { join = joins-of; least = join-all; boxes = λ a b h. (within-told a b, within-from a b h) }
@@ -133,9 +133,9 @@ fits-grown : (b : Known) (s : Stamp) (u : Window) (when : Interval) (w : Window)
 fits-grown b s u when w asked =
     let parts = is-in-joined w (bound_at b s) u in
     subst (λ o. IsIn o u ↔ (Fits s u b × (holds when s ≡ true → within w u ≡ true))) (sym (grown-bound when w b s asked))
-        (cond_both (holds when s) (Some (joined w (bound_at b s))) (bound_at b s) (λ o. IsIn o u ↔ (Fits s u b × (holds when s ≡ true → within w u ≡ true)))
-            (λ h. (λ i. ((parts.0 i).0, λ _. (parts.0 i).1), λ a. parts.1 (a.0, a.1 h)))
-            (λ h. (λ i. (i, λ k. absurd (false≢true (sym h ∙ k))), λ a. a.0)))
+    (cond_both (holds when s) (Some (joined w (bound_at b s))) (bound_at b s) (λ o. IsIn o u ↔ (Fits s u b × (holds when s ≡ true → within w u ≡ true)))
+    (λ h. (λ i. ((parts.0 i).0, λ _. (parts.0 i).1), λ a. parts.1 (a.0, a.1 h)))
+    (λ h. (λ i. (i, λ k. absurd (false≢true (sym h ∙ k))), λ a. a.0)))
 
 fits-trimmed : (b : Known) (s : Stamp) (u : Window) (l : Line) → is_below s l ≡ false → Fits s u (trimmed l b) ↔ Fits s u b
 fits-trimmed b s u l asked = (let e = filter-bound l b.pieces b.rest s asked in (λ h. subst (λ o. IsIn o u) e h, λ h. subst (λ o. IsIn o u) (sym e) h))

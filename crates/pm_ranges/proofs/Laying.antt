@@ -107,8 +107,8 @@ above-parted : (x : Option Stamp) (e : Stamp) (ps : List Piece) (rest : Option W
 above-parted x e [] rest h a = (h, tt)
 above-parted x e (p ∷ ps) rest h a =
     cond_both (stamp_lt p.until e) (p ∷ parted e ps rest) (if stamp_lt e p.until then record { until = e; window = p.window } ∷ p ∷ ps else p ∷ ps) (Above x)
-        (λ _. (a.0, above-parted x e ps rest h a.1))
-        (λ _. cond_both (stamp_lt e p.until) (record { until = e; window = p.window } ∷ p ∷ ps) (p ∷ ps) (Above x) (λ _. (h, a)) (λ _. a))
+    (λ _. (a.0, above-parted x e ps rest h a.1))
+    (λ _. cond_both (stamp_lt e p.until) (record { until = e; window = p.window } ∷ p ∷ ps) (p ∷ ps) (Above x) (λ _. (h, a)) (λ _. a))
 
 above-lower : (d e : Stamp) (ps : List Piece) → stamp_lt d e ≡ true → Above (Some e) ps → Above (Some d) ps
 above-lower d e [] h a = tt
@@ -118,8 +118,8 @@ pub rising-kept : (e : Stamp) (ps : List Piece) (rest : Option Window) → Risin
 rising-kept e [] rest r = (tt, tt)
 rising-kept e (p ∷ ps) rest r =
     cond_both (stamp_lt p.until e) (p ∷ parted e ps rest) (if stamp_lt e p.until then record { until = e; window = p.window } ∷ p ∷ ps else p ∷ ps) Rising
-        (λ k. (above-parted (Some p.until) e ps rest k r.0, rising-kept e ps rest r.1))
-        (λ _. cond_both (stamp_lt e p.until) (record { until = e; window = p.window } ∷ p ∷ ps) (p ∷ ps) Rising (λ k. ((k, above-lower e p.until ps k r.0), r)) (λ _. r))
+    (λ k. (above-parted (Some p.until) e ps rest k r.0, rising-kept e ps rest r.1))
+    (λ _. cond_both (stamp_lt e p.until) (record { until = e; window = p.window } ∷ p ∷ ps) (p ∷ ps) Rising (λ k. ((k, above-lower e p.until ps k r.0), r)) (λ _. r))
 
 pub rising-at : (o : Option Stamp) (ps : List Piece) (rest : Option Window) → Rising ps → Rising (parted_at o ps rest)
 rising-at None ps rest r = r
@@ -151,8 +151,8 @@ pub upright-parted : (e : Stamp) (ps : List Piece) (rest : Option Window) → Al
 upright-parted e [] rest a r = (r, tt)
 upright-parted e (p ∷ ps) rest a r =
     cond_both (stamp_lt p.until e) (p ∷ parted e ps rest) (if stamp_lt e p.until then record { until = e; window = p.window } ∷ p ∷ ps else p ∷ ps) AllUpright
-        (λ _. (a.0, upright-parted e ps rest a.1 r))
-        (λ _. cond_both (stamp_lt e p.until) (record { until = e; window = p.window } ∷ p ∷ ps) (p ∷ ps) AllUpright (λ _. (a.0, a)) (λ _. a))
+    (λ _. (a.0, upright-parted e ps rest a.1 r))
+    (λ _. cond_both (stamp_lt e p.until) (record { until = e; window = p.window } ∷ p ∷ ps) (p ∷ ps) AllUpright (λ _. (a.0, a)) (λ _. a))
 
 pub upright-parts : (o : Option Stamp) (ps : List Piece) (rest : Option Window) → AllUpright ps → Upright rest → AllUpright (parted_at o ps rest)
 upright-parts None ps rest a r = a
@@ -217,6 +217,6 @@ pub parted-put : (e : Stamp) (ps items : List Piece) (rest o : Option Window) (k
     → take k items ++ record { until = e; window = o } ∷ drop k items ≡ parted e ps rest
 parted-put e ps items rest o k is at own there =
     ap (λ xs. take k xs ++ record { until = e; window = o } ∷ drop k xs) is
-        ∙ ap (λ j. take j ps ++ record { until = e; window = o } ∷ drop j ps) at
-        ∙ ap (λ z. take (before e ps) ps ++ record { until = e; window = z } ∷ drop (before e ps) ps) own
-        ∙ parted-here e ps rest (subst (λ j. ends_at e (drop j ps) ≡ false) at there)
+    ∙ ap (λ j. take j ps ++ record { until = e; window = o } ∷ drop j ps) at
+    ∙ ap (λ z. take (before e ps) ps ++ record { until = e; window = z } ∷ drop (before e ps) ps) own
+    ∙ parted-here e ps rest (subst (λ j. ends_at e (drop j ps) ≡ false) at there)

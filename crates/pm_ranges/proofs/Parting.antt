@@ -119,7 +119,7 @@ raised-at when w (p ∷ ps) rest s f u =
     go : (stamp_lt p.until s ≡ true → bound_of (raised when w ps) (raised_rest when w rest) s ≡ (if holds when s then Some (joined w (bound_of ps rest s)) else bound_of ps rest s))
         → (q : Piece) → q.until ≡ p.until → q.window ≡ (if holds when p.until then Some (joined w p.window) else p.window)
         → (if stamp_lt q.until s then bound_of (raised when w ps) (raised_rest when w rest) s else q.window)
-            ≡ (if holds when s then Some (joined w (if stamp_lt p.until s then bound_of ps rest s else p.window)) else (if stamp_lt p.until s then bound_of ps rest s else p.window))
+        ≡ (if holds when s then Some (joined w (if stamp_lt p.until s then bound_of ps rest s else p.window)) else (if stamp_lt p.until s then bound_of ps rest s else p.window))
     go again q e is = elim (cases_Bool (stamp_lt p.until s)) [
       | inl h ↦ rw (e, h) (again h)
       | inr h ↦ (let side : holds when p.until ≡ holds when s = ap₂ (λ a b. a && b) (after-same when.from s p ps h f) (until-same when.until s p ps h u) in rw (e, h, is, side) refl)

@@ -33,7 +33,7 @@ sides a b h =
 pub sides-within : (a b : Window) → Sides a b → within a b ≡ true
 sides-within a b s =
     and_from (int_le b.x0 a.x0 && int_le a.x1 b.x1) _ (and_from (int_le b.x0 a.x0) _ (le-from b.x0 a.x0 s.left) (le-from a.x1 b.x1 s.right))
-        (and_from (int_le b.y0 a.y0) _ (le-from b.y0 a.y0 s.low) (le-from a.y1 b.y1 s.high))
+    (and_from (int_le b.y0 a.y0) _ (le-from b.y0 a.y0 s.low) (le-from a.y1 b.y1 s.high))
 
 pub within-trans : (a b c : Window) → within a b ≡ true → within b c ≡ true → within a c ≡ true
 within-trans a b c h k =

@@ -50,6 +50,7 @@ impl Bounds {
         ensures bounds { OnOk result (self.new ≡ grown when window self.old) }
         ensures value { IfOk result (λ grew. grew ≡ not (covers self.old when window)) }
         ensures exactly { IfOk result (λ grew. IsTrue grew ↔ Grows when window self.old) }
+        ensures line { self.new.line ≡ self.old.line }
         ensures err { OnErr result (self.new ≡ self.old) }
     {
         if self.covers(&when, &window) {
@@ -70,8 +71,8 @@ impl Bounds {
         bound_of(self.pieces.as_slice(), &self.rest, s)
     }
 
-    /// Whether `grow` would change no bound that may be asked for. It looks once at each piece that is kept: at most
-    /// two for each interval that grew since the last `trim`.
+    /// Whether `grow` would change no bound that may be asked for. It looks once at each piece that is kept. A growth
+    /// adds at most two pieces, which end where its interval begins and ends, and `trim` drops those below the line.
     pub fn covers(&self, when: &Interval, window: &Window) -> bool
         requires { is_inverted window.now ≡ false }
         ensures value { result ≡ covers self.now when.now window.now }

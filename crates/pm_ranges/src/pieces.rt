@@ -56,7 +56,12 @@ fn piece_covers(line: &Line, piece: &Piece, when: &Interval, window: &Window) ->
 }
 
 /// A copy of the pieces, with one that ends at this stamp.
-fn parted(alloc: Global, e: Stamp, pieces: &[Piece], rest: &Option<Window>) -> Result<Vec<Piece>, Memory>
+fn parted(
+    alloc: Global,
+    e: Stamp,
+    pieces: &[Piece],
+    rest: &Option<Window>,
+) -> Result<Vec<Piece>, Memory>
     requires { Rising pieces.now }
     ensures { IfOk result (λ parts. parts.items ≡ parted e pieces.now rest.now) }
 {
@@ -80,7 +85,12 @@ fn ends_at(pieces: &[Piece], place: usize, e: Stamp) -> bool
 }
 
 /// The same where there may be no such stamp.
-fn parted_at(alloc: Global, at: &Option<Stamp>, pieces: &[Piece], rest: &Option<Window>) -> Result<Vec<Piece>, Memory>
+fn parted_at(
+    alloc: Global,
+    at: &Option<Stamp>,
+    pieces: &[Piece],
+    rest: &Option<Window>,
+) -> Result<Vec<Piece>, Memory>
     requires { Rising pieces.now }
     ensures { IfOk result (λ parts. parts.items ≡ parted_at at.now pieces.now rest.now) }
 {
@@ -91,7 +101,13 @@ fn parted_at(alloc: Global, at: &Option<Stamp>, pieces: &[Piece], rest: &Option<
 }
 
 /// A copy of the pieces, in which the window is joined to the bounds of the interval.
-pub fn grown(alloc: Global, when: &Interval, window: &Window, pieces: &[Piece], rest: &Option<Window>) -> Result<Vec<Piece>, Memory>
+pub fn grown(
+    alloc: Global,
+    when: &Interval,
+    window: &Window,
+    pieces: &[Piece],
+    rest: &Option<Window>,
+) -> Result<Vec<Piece>, Memory>
     requires window { is_inverted window.now ≡ false }
     requires rising { Rising pieces.now }
     requires upright { AllUpright pieces.now }

@@ -14,4 +14,4 @@ returns-then-ends_at c =
 pub returns : goal.returns
 returns c =
     c.in_ok-insert.ensures.items
-        ∙ parted-put c.args.e c.args.pieces.now c.in_ok-parts.parts.items c.args.rest.now c.bound_of-window.result c.before-place.result c.in_ok-parts.ensures.items c.before-place.ensures.value c.bound_of-window.ensures (sym c.ends_at.ensures ∙ c.if-ends_at.false)
+    ∙ parted-put c.args.e c.args.pieces.now c.in_ok-parts.parts.items c.args.rest.now c.bound_of-window.result c.before-place.result c.in_ok-parts.ensures.items c.before-place.ensures.value c.bound_of-window.ensures (sym c.ends_at.ensures ∙ c.if-ends_at.false)

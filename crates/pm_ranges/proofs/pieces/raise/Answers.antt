@@ -14,7 +14,7 @@ raised_one-requires-clause-piece c =
     let len = c.args.pieces.now.ok.0 in
     let low : c.loop-at.at < length c.args.pieces.now.items = omega (arith, more, end, len) in
     let is : c.index.result.now ≡ get_or c.args.pieces.now.items c.loop-at.at c.index.result.now =
-        c.index.ensures ∙ ap (λ ps. get_or ps c.loop-at.at c.index.result.now) c.loop-at.invariant ∙ raise-here (raised_one c.args.when.now c.args.window.now) c.args.pieces.now.items c.loop-at.at c.index.result.now low in
+    c.index.ensures ∙ ap (λ ps. get_or ps c.loop-at.at c.index.result.now) c.loop-at.invariant ∙ raise-here (raised_one c.args.when.now c.args.window.now) c.args.pieces.now.items c.loop-at.at c.index.result.now low in
     subst (λ (p : Piece). Upright p.window) (sym is) (upright-at c.args.pieces.now.items c.requires.upright c.loop-at.at c.index.result.now low)
 
 pub loop-at-preserved : goal.loop-at-preserved
@@ -25,8 +25,8 @@ loop-at-preserved c =
     let low : c.loop-at.at < length c.args.pieces.now.items = omega (arith, more, end, len) in
     let next : suc c.loop-at.at ≡ c.loop-at.at + 1 = omega arith in
     let is : c.index.result.now ≡ get_or c.args.pieces.now.items c.loop-at.at c.index.result.now =
-        c.index.ensures ∙ ap (λ ps. get_or ps c.loop-at.at c.index.result.now) c.loop-at.invariant ∙ raise-here (raised_one c.args.when.now c.args.window.now) c.args.pieces.now.items c.loop-at.at c.index.result.now low in
+    c.index.ensures ∙ ap (λ ps. get_or ps c.loop-at.at c.index.result.now) c.loop-at.invariant ∙ raise-here (raised_one c.args.when.now c.args.window.now) c.args.pieces.now.items c.loop-at.at c.index.result.now low in
     ap (λ ps. set ps c.loop-at.at c.raised_one.result) c.loop-at.invariant
-        ∙ ap (set (map (raised_one c.args.when.now c.args.window.now) (take c.loop-at.at c.args.pieces.now.items) ++ drop c.loop-at.at c.args.pieces.now.items) c.loop-at.at) (c.raised_one.ensures ∙ ap (raised_one c.args.when.now c.args.window.now) is)
-        ∙ raise-step (raised_one c.args.when.now c.args.window.now) c.args.pieces.now.items c.loop-at.at c.index.result.now low
-        ∙ ap (λ k. map (raised_one c.args.when.now c.args.window.now) (take k c.args.pieces.now.items) ++ drop k c.args.pieces.now.items) next
+    ∙ ap (set (map (raised_one c.args.when.now c.args.window.now) (take c.loop-at.at c.args.pieces.now.items) ++ drop c.loop-at.at c.args.pieces.now.items) c.loop-at.at) (c.raised_one.ensures ∙ ap (raised_one c.args.when.now c.args.window.now) is)
+    ∙ raise-step (raised_one c.args.when.now c.args.window.now) c.args.pieces.now.items c.loop-at.at c.index.result.now low
+    ∙ ap (λ k. map (raised_one c.args.when.now c.args.window.now) (take k c.args.pieces.now.items) ++ drop k c.args.pieces.now.items) next
