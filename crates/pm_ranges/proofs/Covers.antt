@@ -9,7 +9,7 @@ use Rattle.pm_base.specs.declared.stamp.Line.TheVariants as line
 use Rattle.pm_base.specs.declared.stamp.Stamp.{Stamp}
 use Rattle.pm_base.specs.declared.value.Window.{Window}
 use Rattle.pm_ranges.specs.declared.piece.Piece.{Piece}
-use Rattle.pm_ranges.specs.Joins.{joined, lies_in}
+use Rattle.pm_ranges.specs.Joins.{lies_in}
 use Rattle.pm_ranges.specs.Known.{Known, bound_of, bound_at, covered_at, ends_covered, last_covered, is_end, covers, IsCovered}
 use Rattle.pm_ranges.proofs.Parting.{lt-le, le-lt, lt-not, never-itself, le-trans}
 
@@ -39,14 +39,16 @@ covered-not false true true c = absurd (cc)
 covered-not false true false c = (refl, refl, refl)
 covered-not false false l c = absurd (cc)
 
-pub told-at : (b : Known) (when : Interval) (w : Window) (t : Stamp) → covered_at b when w t ≡ true → is_below t b.line ≡ false → holds when t ≡ true → lies_in w (bound_at b t) ≡ true
+pub told-at : (b : Known) (when : Interval) (w : Window) (t : Stamp) → covered_at b when w t ≡ true
+    → is_below t b.line ≡ false → holds when t ≡ true → lies_in w (bound_at b t) ≡ true
 told-at b when w t c p h = covered-told (is_below t b.line) (holds when t) (lies_in w (bound_at b t)) c p h
 
 -- at the stamps from s on the bounds are those of these pieces
 abbrev pub Agrees : Known → Stamp → List Piece → Type 0
 Agrees b s ps = (t : Stamp) → stamp_lt t s ≡ false → bound_at b t ≡ bound_of ps b.rest t
 
-agrees-next : (b : Known) (s : Stamp) (p : Piece) (ps : List Piece) → stamp_lt p.until s ≡ true → Agrees b s (p ∷ ps) → Agrees b s ps
+agrees-next : (b : Known) (s : Stamp) (p : Piece) (ps : List Piece) → stamp_lt p.until s ≡ true → Agrees b s (p ∷ ps)
+    → Agrees b s ps
 agrees-next b s p ps h a t k = (let later = lt-le p.until s t h k in a t k ∙ ap (λ c. if c then bound_of ps b.rest t else p.window) later)
 
 module _ (b : Known) (when : Interval) (w : Window) (s : Stamp) (asked : is_below s b.line ≡ false) (held : holds when s ≡ true) where
@@ -57,7 +59,8 @@ module _ (b : Known) (when : Interval) (w : Window) (s : Stamp) (asked : is_belo
   until-s = (and_parts (is_after when.from s) (is_until when.until s) held).1
 
   -- at the interval's own end, no earlier than s
-  at-end : (o : Option Stamp) → when.until ≡ o → last_covered b when w o ≡ true → (u : Stamp) → o ≡ Some u → lies_in w (bound_at b u) ≡ true
+  at-end : (o : Option Stamp) → when.until ≡ o → last_covered b when w o ≡ true → (u : Stamp) → o ≡ Some u
+      → lies_in w (bound_at b u) ≡ true
   at-end None is c u e = absurd (cc)
   at-end (Some x) is c u e =
       let same : x ≡ u = cc in
@@ -66,7 +69,8 @@ module _ (b : Known) (when : Interval) (w : Window) (s : Stamp) (asked : is_belo
       let until : is_until when.until x ≡ true = subst (λ o. is_until o x ≡ true) (sym is) (ap not (never-itself x)) in
       subst (λ z. lies_in w (bound_at b z) ≡ true) same (told-at b when w x c (asked-later b.line s x asked no_earlier) (and_from (is_after when.from x) _ from until))
 
-  behind : (o : Option Stamp) → when.until ≡ o → last_covered b when w o ≡ true → Agrees b s [] → lies_in w (bound_at b s) ≡ true
+  behind : (o : Option Stamp) → when.until ≡ o → last_covered b when w o ≡ true → Agrees b s []
+      → lies_in w (bound_at b s) ≡ true
   behind None is c a = subst (λ z. lies_in w z ≡ true) (sym (a s (never-itself s))) (at-rest b.line refl)
     where
       at-rest : (l : Line) → b.line ≡ l → lies_in w b.rest ≡ true
@@ -77,7 +81,8 @@ module _ (b : Known) (when : Interval) (w : Window) (s : Stamp) (asked : is_belo
       subst (λ z. lies_in w z ≡ true) (a u no_earlier ∙ sym (a s (never-itself s))) (at-end (Some u) is c u refl)
 
   -- in the piece that s is in
-  within-piece : (p : Piece) (ps : List Piece) → stamp_lt p.until s ≡ false → covered_at b when w p.until ≡ true → (o : Option Stamp) → when.until ≡ o → last_covered b when w o ≡ true → Agrees b s (p ∷ ps)
+  within-piece : (p : Piece) (ps : List Piece) → stamp_lt p.until s ≡ false → covered_at b when w p.until ≡ true
+      → (o : Option Stamp) → when.until ≡ o → last_covered b when w o ≡ true → Agrees b s (p ∷ ps)
       → lies_in w p.window ≡ true
   within-piece p ps h c o is last a = elim (cases_Bool (is_until when.until p.until)) [
     | inl k ↦ (let e : bound_at b p.until ≡ p.window = a p.until h ∙ ap (λ z. if z then bound_of ps b.rest p.until else p.window) (never-itself p.until) in
@@ -85,7 +90,8 @@ module _ (b : Known) (when : Interval) (w : Window) (s : Stamp) (asked : is_belo
     | inr k ↦ short k o is last
   ]
     where
-      short : is_until when.until p.until ≡ false → (o : Option Stamp) → when.until ≡ o → last_covered b when w o ≡ true → lies_in w p.window ≡ true
+      short : is_until when.until p.until ≡ false → (o : Option Stamp) → when.until ≡ o
+          → last_covered b when w o ≡ true → lies_in w p.window ≡ true
       short k None is last = absurd (let m = subst (λ o. is_until o p.until ≡ false) is k in cc)
       short k (Some u) is last =
           let no_earlier : stamp_lt u s ≡ false = not-true (stamp_lt u s) (subst (λ o. is_until o s ≡ true) is until-s) in
@@ -93,7 +99,8 @@ module _ (b : Known) (when : Interval) (w : Window) (s : Stamp) (asked : is_belo
           let e : bound_at b u ≡ p.window = a u no_earlier ∙ ap (λ z. if z then bound_of ps b.rest u else p.window) (lt-not u p.until shorter) in
           subst (λ z. lies_in w z ≡ true) e (at-end (Some u) is last u refl)
 
-  covered-in : (ps : List Piece) → ends_covered b when w ps ≡ true → last_covered b when w when.until ≡ true → Agrees b s ps → lies_in w (bound_at b s) ≡ true
+  covered-in : (ps : List Piece) → ends_covered b when w ps ≡ true → last_covered b when w when.until ≡ true
+      → Agrees b s ps → lies_in w (bound_at b s) ≡ true
   covered-in [] c last a = behind when.until refl last a
   covered-in (p ∷ ps) c last a =
       let parts = and_parts (covered_at b when w p.until) (ends_covered b when w ps) c in
@@ -109,7 +116,8 @@ covers-told b when w c s asked held =
     covered-in b when w s asked held b.pieces parts.0 parts.1 (λ t k. refl)
 
 -- a stamp after this one and after all pieces
-late : (ps : List Piece) (rest : Option Window) (x : Stamp) → (s : Stamp) × (stamp_lt x s ≡ true) × (bound_of ps rest s ≡ rest)
+late : (ps : List Piece) (rest : Option Window) (x : Stamp)
+    → (s : Stamp) × (stamp_lt x s ≡ true) × (bound_of ps rest s ≡ rest)
 late [] rest x = (record { time = x.time + 1; agent = 0 }, grind (arith, nat_tests), refl)
 late (p ∷ ps) rest x = elim (cases_Bool (stamp_lt x p.until)) [
   | inl h ↦ (let l = late ps rest p.until in (l.0, lt-le x p.until l.0 h (lt-not p.until l.0 l.1), ap (λ z. if z then bound_of ps rest l.0 else p.window) l.1 ∙ l.2))
@@ -127,7 +135,8 @@ and-false : (a c : Bool) → (a && c) ≡ false → (a ≡ false) ⊎ (c ≡ fal
 and-false true c h = inr h
 and-false false c h = inl refl
 
-missing-end : (b : Known) (when : Interval) (w : Window) (ps : List Piece) → ends_covered b when w ps ≡ false → Missing b when w
+missing-end : (b : Known) (when : Interval) (w : Window) (ps : List Piece) → ends_covered b when w ps ≡ false
+    → Missing b when w
 missing-end b when w [] c = absurd (cc)
 missing-end b when w (p ∷ ps) c = elim (and-false (covered_at b when w p.until) (ends_covered b when w ps) c) [
   | inl h ↦ missing-at b when w p.until h
@@ -138,10 +147,12 @@ or-false : (a c : Bool) → (a || c) ≡ false → (a ≡ false) × (c ≡ false
 or-false true c h = absurd (cc)
 or-false false c h = (refl, h)
 
-missing-rest : (b : Known) (when : Interval) (w : Window) → when.until ≡ None → is_end b.line ≡ false → lies_in w b.rest ≡ false → Missing b when w
+missing-rest : (b : Known) (when : Interval) (w : Window) → when.until ≡ None → is_end b.line ≡ false
+    → lies_in w b.rest ≡ false → Missing b when w
 missing-rest b when w is not_end c = go b.line refl when.from refl
   where
-    found : (x s : Stamp) (l : Line) → b.line ≡ l → is_below s l ≡ false → is_after when.from s ≡ true → bound_at b s ≡ b.rest → Missing b when w
+    found : (x s : Stamp) (l : Line) → b.line ≡ l → is_below s l ≡ false → is_after when.from s ≡ true
+        → bound_at b s ≡ b.rest → Missing b when w
     found x s l e asked from rest = (
       s,
       subst (λ z. is_below s z ≡ false) (sym e) asked,
@@ -157,7 +168,8 @@ missing-rest b when w is not_end c = go b.line refl when.from refl
       | inr h ↦ (let l = late b.pieces b.rest x in found x l.0 (line.At x) e (lt-not x l.0 l.1) (subst (λ o. is_after o l.0 ≡ true) (sym f) (le-lt y x l.0 h l.1)) l.2)
     ]
 
-missing-last : (b : Known) (when : Interval) (w : Window) (o : Option Stamp) → when.until ≡ o → last_covered b when w o ≡ false → Missing b when w
+missing-last : (b : Known) (when : Interval) (w : Window) (o : Option Stamp) → when.until ≡ o
+    → last_covered b when w o ≡ false → Missing b when w
 missing-last b when w None is c = (let m = or-false (is_end b.line) (lies_in w b.rest) c in missing-rest b when w is m.0 m.1)
 missing-last b when w (Some u) is c = missing-at b when w u c
 

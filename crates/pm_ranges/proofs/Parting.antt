@@ -1,5 +1,5 @@
 -- A piece more changes no bound; a joined window changes those of its interval.
-use Rattle.std.proofs.Common.{◌≡◌, ◌⊎◌, inl, inr, refl, Bool, true, false, not, ◌&&◌, ◌||◌, cond, if◌then◌else◌, List, [], ◌∷◌, Option, Some, None, arith, sym, ◌∙◌, ap, ap₂, subst}
+use Rattle.std.proofs.Common.{◌≡◌, ◌⊎◌, inl, inr, refl, true, false, not, ◌&&◌, if◌then◌else◌, List, [], ◌∷◌, Option, Some, None, arith, sym, ◌∙◌, ap, ap₂, subst}
 use Rattle.std.specs.Prelude.{is_none}
 use Rattle.std.proofs.lemmas.Bool.{cases_Bool, cond_both}
 use Rattle.std.proofs.lemmas.Bool.Decides.{nat_tests}
@@ -9,7 +9,7 @@ use Rattle.pm_base.specs.declared.stamp.Stamp.{Stamp}
 use Rattle.pm_base.specs.declared.value.Window.{Window}
 use Rattle.pm_ranges.specs.declared.piece.Piece.{Piece}
 use Rattle.pm_ranges.specs.Joins.{joined}
-use Rattle.pm_ranges.specs.Known.{bound_of, parted, parted_at, raised, raised_one, raised_rest}
+use Rattle.pm_ranges.specs.Known.{bound_of, parted, raised, raised_one, raised_rest}
 
 -- what is before a stamp is before each later one
 pub lt-le : (a s t : Stamp) → stamp_lt a s ≡ true → stamp_lt t s ≡ false → stamp_lt a t ≡ true
@@ -30,7 +30,8 @@ le-trans a b c h k = grind (arith, nat_tests)
 pub stamps-same : (a b : Stamp) → stamp_lt a b ≡ false → stamp_lt b a ≡ false → a ≡ b
 stamps-same a b h k = grind (arith, nat_tests)
 
-pub parted-same : (e : Stamp) (ps : List Piece) (rest : Option Window) (s : Stamp) → bound_of (parted e ps rest) rest s ≡ bound_of ps rest s
+pub parted-same : (e : Stamp) (ps : List Piece) (rest : Option Window) (s : Stamp)
+    → bound_of (parted e ps rest) rest s ≡ bound_of ps rest s
 parted-same e [] rest s = elim (cases_Bool (stamp_lt e s)) [ inl h ↦ rw h refl | inr h ↦ rw h refl ]
 parted-same e (p ∷ ps) rest s = elim (cases_Bool (stamp_lt p.until e)) [
   | inl h ↦ rw h (ap (λ o. if stamp_lt p.until s then o else p.window) (parted-same e ps rest s))
@@ -76,30 +77,35 @@ Ready None s ps = Unit {0}
 Ready (Some e) s ps = (stamp_lt e s ≡ true) ⊎ Ends e ps
 
 -- it stays so behind a piece that ends before the stamp
-pub ready-next : (o : Option Stamp) (s : Stamp) (p : Piece) (ps : List Piece) → stamp_lt p.until s ≡ true → Ready o s (p ∷ ps) → Ready o s ps
+pub ready-next : (o : Option Stamp) (s : Stamp) (p : Piece) (ps : List Piece) → stamp_lt p.until s ≡ true
+    → Ready o s (p ∷ ps) → Ready o s ps
 ready-next None s p ps h r = tt
 ready-next (Some e) s p ps h (inl r) = inl r
 ready-next (Some e) s p ps h (inr (inl r)) = inr r.1
 ready-next (Some e) s p ps h (inr (inr r)) = inl (subst (λ z. stamp_lt z s ≡ true) r h)
 
 -- a stamp and the end of its piece are on one side of it
-after-same : (o : Option Stamp) (s : Stamp) (p : Piece) (ps : List Piece) → stamp_lt p.until s ≡ false → Ready o s (p ∷ ps) → is_after o p.until ≡ is_after o s
+after-same : (o : Option Stamp) (s : Stamp) (p : Piece) (ps : List Piece) → stamp_lt p.until s ≡ false
+    → Ready o s (p ∷ ps) → is_after o p.until ≡ is_after o s
 after-same None s p ps h r = refl
 after-same (Some e) s p ps h (inl r) = lt-le e s p.until r h ∙ sym r
 after-same (Some e) s p ps h (inr (inl r)) = lt-not p.until e r.0 ∙ sym (le-trans s p.until e h (lt-not p.until e r.0))
 after-same (Some e) s p ps h (inr (inr r)) = subst (λ z. stamp_lt z p.until ≡ stamp_lt z s) r (never-itself p.until ∙ sym h)
 
-until-same : (o : Option Stamp) (s : Stamp) (p : Piece) (ps : List Piece) → stamp_lt p.until s ≡ false → Ready o s (p ∷ ps) → is_until o p.until ≡ is_until o s
+until-same : (o : Option Stamp) (s : Stamp) (p : Piece) (ps : List Piece) → stamp_lt p.until s ≡ false
+    → Ready o s (p ∷ ps) → is_until o p.until ≡ is_until o s
 until-same None s p ps h r = refl
 until-same (Some e) s p ps h r = ap not (after-same (Some e) s p ps h r)
 
 pub raised_one-until : (when : Interval) (w : Window) (p : Piece) → (raised_one when w p).until ≡ p.until
 raised_one-until when w p = cond_both (holds when p.until) (record p { window = Some (joined w p.window) }) p (λ (q : Piece). q.until ≡ p.until) (λ _. refl) (λ _. refl)
 
-pub raised_one-window : (when : Interval) (w : Window) (p : Piece) → (raised_one when w p).window ≡ (if holds when p.until then Some (joined w p.window) else p.window)
+pub raised_one-window : (when : Interval) (w : Window) (p : Piece)
+    → (raised_one when w p).window ≡ (if holds when p.until then Some (joined w p.window) else p.window)
 raised_one-window when w p = elim (cases_Bool (holds when p.until)) [ inl h ↦ rw h refl | inr h ↦ rw h refl ]
 
-pub raised-at : (when : Interval) (w : Window) (ps : List Piece) (rest : Option Window) (s : Stamp) → Ready when.from s ps → Ready when.until s ps
+pub raised-at : (when : Interval) (w : Window) (ps : List Piece) (rest : Option Window) (s : Stamp)
+    → Ready when.from s ps → Ready when.until s ps
     → bound_of (raised when w ps) (raised_rest when w rest) s ≡ (if holds when s then Some (joined w (bound_of ps rest s)) else bound_of ps rest s)
 raised-at when w [] rest s f u = behind when.from when.until f u
   where

@@ -1,11 +1,10 @@
 -- Windows within one another, and their joins.
-use Rattle.std.proofs.Common.{◌≡◌, refl, ℤ, ◌≤ℤ◌, Bool, true, false, ◌&&◌, IsTrue, ◌↔◌, arith, Option, Some, None, ap, sym, subst}
+use Rattle.std.proofs.Common.{◌≡◌, ℤ, ◌≤ℤ◌, true, false, ◌&&◌, arith, Option, Some, None, ap, subst}
 use Rattle.std.specs.Prelude.{int_le}
 use Rattle.std.specs.Int.{int_min, int_max}
 use Rattle.std.proofs.lemmas.Bool.{and_parts, and_from}
 use Rattle.std.proofs.lemmas.Int.{ints, clamps}
-use Rattle.pm_base.specs.Windows.{Inside, Within, is_inverted, join_of}
-use Rattle.pm_base.specs.declared.value.Value.{Value}
+use Rattle.pm_base.specs.Windows.{Within, is_inverted, join_of}
 use Rattle.pm_base.specs.declared.value.Window.{Window}
 use Rattle.pm_base.proofs.Boxes.{upright-x, upright-y}
 use Rattle.pm_ranges.specs.Joins.{within, joined, lies_in}

@@ -25,6 +25,11 @@ abbrev pub join_at : List Row → Stamp → Option Window
 join_at [] s = None
 join_at (r ∷ rs) s = if holds r.when s then Some (joined r.window (join_at rs s)) else join_at rs s
 
+-- no interval holds the stamp
+abbrev pub NoneHolds : List Row → Stamp → Type 0
+NoneHolds [] s = Unit {0}
+NoneHolds (r ∷ rs) s = (holds r.when s ≡ false) × NoneHolds rs s
+
 -- a window is within a bound; where nothing is known, none is
 abbrev pub lies_in : Window → Option Window → Bool
 lies_in w None = false

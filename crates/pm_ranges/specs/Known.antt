@@ -1,6 +1,6 @@
 -- What is known of one class behind one port: a bound for each stamp.
-use Rattle.std.specs.Prelude.{ℕ, ◌≡◌, Bool, true, false, not, ◌&&◌, ◌||◌, if◌then◌else◌, is_none, List, [], ◌∷◌, map, filter, Option, Some, None}
-use Rattle.pm_base.specs.Stamps.{stamp_lt, is_below, line_lt, holds}
+use Rattle.std.specs.Prelude.{◌≡◌, Bool, true, false, not, ◌&&◌, ◌||◌, if◌then◌else◌, is_none, List, [], ◌∷◌, map, filter, Option, Some, None}
+use Rattle.pm_base.specs.Stamps.{stamp_lt, is_below, holds}
 use Rattle.pm_base.specs.declared.stamp.Interval.{Interval}
 use Rattle.pm_base.specs.declared.stamp.Line.{Line}
 use Rattle.pm_base.specs.declared.stamp.Line.TheVariants as line
@@ -30,7 +30,9 @@ nothing_known = record { line = line.At (record { time = 0; agent = 0 }); pieces
 abbrev pub parted : Stamp → List Piece → Option Window → List Piece
 parted e [] rest = record { until = e; window = rest } ∷ []
 parted e (p ∷ ps) rest =
-    if stamp_lt p.until e then p ∷ parted e ps rest else if stamp_lt e p.until then record { until = e; window = p.window } ∷ p ∷ ps else p ∷ ps
+    if stamp_lt p.until e then p ∷ parted e ps rest
+    else if stamp_lt e p.until then record { until = e; window = p.window } ∷ p ∷ ps
+    else p ∷ ps
 
 abbrev pub parted_at : Option Stamp → List Piece → Option Window → List Piece
 parted_at None ps rest = ps
@@ -46,6 +48,10 @@ raised when w ps = map (raised_one when w) ps
 -- and to the bound behind them, where the interval has no end
 abbrev pub raised_rest : Interval → Window → Option Window → Option Window
 raised_rest when w rest = if is_none when.until then Some (joined w rest) else rest
+
+-- with pieces that end where the interval does
+abbrev pub grown_pieces : Interval → Window → List Piece → Option Window → List Piece
+grown_pieces when w ps rest = raised when w (parted_at when.until (parted_at when.from ps rest) rest)
 
 -- nothing is asked there, or the window is within the bound
 abbrev pub covered_at : Known → Interval → Window → Stamp → Bool
@@ -70,24 +76,23 @@ covers b when w = ends_covered b when w b.pieces && last_covered b when w when.u
 -- the window joined to the bounds of the interval, unless it is within them
 abbrev pub grown : Interval → Window → Known → Known
 grown when w b = if covers b when w then b else
-    record b { pieces = raised when w (parted_at when.until (parted_at when.from b.pieces b.rest) b.rest); rest = raised_rest when w b.rest }
+    record b { pieces = grown_pieces when w b.pieces b.rest; rest = raised_rest when w b.rest }
 
 -- one after another, the last one first in the list
 abbrev pub grown_all : List Row → Known
 grown_all [] = nothing_known
 grown_all (r ∷ rs) = grown r.when r.window (grown_all rs)
 
--- the line rises and never falls; pieces below it go
-abbrev pub higher : Line → Line → Line
-higher a b = if line_lt a b then b else a
-
+-- the line becomes this one, and the pieces that end below it go
 abbrev pub trimmed : Line → Known → Known
-trimmed l b = record b { line = higher b.line l; pieces = filter (λ p. not (is_below p.until l)) b.pieces }
+trimmed l b = record b { line = l; pieces = filter (λ p. not (is_below p.until l)) b.pieces }
 
 -- some bound that may be asked for is another one after growing
 abbrev pub Grows : Interval → Window → Known → Type 0
-Grows when w b = (s : Stamp) × (is_below s b.line ≡ false) × (bound_at (grown when w b) s ≡ bound_at b s → ⊥)
+Grows when w b =
+    (s : Stamp) × (is_below s b.line ≡ false) × (bound_at (grown when w b) s ≡ bound_at b s → ⊥)
 
 -- the window is within each bound of the interval that may be asked for
 abbrev pub IsCovered : Known → Interval → Window → Type 0
-IsCovered b when w = (s : Stamp) → is_below s b.line ≡ false → holds when s ≡ true → lies_in w (bound_at b s) ≡ true
+IsCovered b when w =
+    (s : Stamp) → is_below s b.line ≡ false → holds when s ≡ true → lies_in w (bound_at b s) ≡ true

@@ -1,5 +1,5 @@
 -- Bounds that grow at all stamps, then from a stamp on.
-use Rattle.std.specs.Prelude.{ℕ, ◌≡◌, true, false, List, [], ◌∷◌, pos, Option, Some, None}
+use Rattle.std.specs.Prelude.{ℕ, ◌≡◌, true, false, [], ◌∷◌, pos, Option, Some, None}
 use Rattle.pm_base.specs.declared.stamp.Interval.{Interval}
 use Rattle.pm_base.specs.declared.stamp.Stamp.{Stamp}
 use Rattle.pm_base.specs.declared.value.Window.{Window}
@@ -26,7 +26,8 @@ sample = grown_all (row (between (Some (at 3 0)) None) (across 5 5) ∷ row (bet
 pub record SampleBounds : Type 0 where
   pub none : bound_at nothing_known (at 0 0) ≡ None
   pub first : covers nothing_known (between None None) (across 0 0) ≡ false
-  pub second : covers (grown_all (row (between None None) (across 0 0) ∷ [])) (between (Some (at 3 0)) None) (across 5 5) ≡ false
+  pub second : covers (grown_all (row (between None None) (across 0 0) ∷ []))
+      (between (Some (at 3 0)) None) (across 5 5) ≡ false
   pub before : bound_at sample (at 3 0) ≡ Some (across 0 0)
   pub after : bound_at sample (at 3 1) ≡ Some (across 0 5)
   pub inside : covers sample (between (Some (at 4 0)) (Some (at 6 0))) (across 2 2) ≡ true

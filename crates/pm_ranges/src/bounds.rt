@@ -1,7 +1,7 @@
 ghost use Rattle.std.specs.Prelude.{◌≡◌, ◌↔◌, false, not, IsTrue, IfOk, OnOk, OnErr};
 ghost use Rattle.pm_base.specs.Stamps.{is_below};
 ghost use Rattle.pm_base.specs.Windows.{is_inverted};
-ghost use Rattle.pm_ranges.specs.Known.{Grows, IsCovered, bound_at, covers, grown, higher, last_covered, nothing_known, trimmed};
+ghost use Rattle.pm_ranges.specs.Known.{Grows, IsCovered, bound_at, covers, grown, last_covered, nothing_known, trimmed};
 
 use crate::boxes::lies_in;
 use crate::piece::Piece;
@@ -95,18 +95,12 @@ impl Bounds {
         }
     }
 
-    /// Raises the line. The bounds that aren't below it stay, and the pieces below it are dropped. A line that is lower
-    /// than the one before drops nothing.
+    /// Sets the line. The bounds that aren't below it stay. Those below it are no longer kept: a lower line later
+    /// brings none of them back.
     pub fn trim(&mut self, line: Line)
         ensures { self.new ≡ trimmed line self.old }
     {
         drop_below(&mut self.pieces, &line);
-        self.line = higher(self.line, line);
+        self.line = line;
     }
-}
-
-fn higher(a: Line, b: Line) -> Line
-    ensures { result ≡ higher a b }
-{
-    if a.is_lower(&b) { b } else { a }
 }

@@ -14,4 +14,3 @@ pub use laws::{
     bounds_are_joins, covering_is_told, fitting_is_kept, growing_joins, sample_bounds,
     trimming_keeps,
 };
-pub use piece::Piece;

@@ -3,7 +3,7 @@ ghost use Rattle.std.specs.Option.{option_copied};
 ghost use Rattle.pm_base.specs.Stamps.{holds, is_below};
 ghost use Rattle.pm_base.specs.Windows.{is_inverted};
 ghost use Rattle.pm_ranges.specs.Joins.{joined, lies_in};
-ghost use Rattle.pm_ranges.specs.Known.{bound_of, parted, parted_at, raised, raised_one, raised_rest};
+ghost use Rattle.pm_ranges.specs.Known.{bound_of, grown_pieces, parted, parted_at, raised, raised_one, raised_rest};
 ghost use Rattle.pm_ranges.specs.Laid.{AllUpright, Rising, Upright, before, ends_at, piece_covers, pieces_cover};
 
 use crate::boxes::{joined, lies_in};
@@ -112,7 +112,7 @@ pub fn grown(
     requires rising { Rising pieces.now }
     requires upright { AllUpright pieces.now }
     requires rest { Upright rest.now }
-    ensures { IfOk result (λ g. g.items ≡ raised when.now window.now (parted_at when.now.until (parted_at when.now.from pieces.now rest.now) rest.now)) }
+    ensures { IfOk result (λ g. g.items ≡ grown_pieces when.now window.now pieces.now rest.now) }
 {
     let first = parted_at(alloc, &when.from, pieces, rest)?;
     let mut pieces = parted_at(alloc, &when.until, first.as_slice(), rest)?;

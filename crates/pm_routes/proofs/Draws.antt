@@ -1,6 +1,5 @@
 -- Where a variable is drawn to.
-use Rattle.std.proofs.Common.{◌≡◌, refl, ℕ, suc, ◌<◌, ◌≤◌, ◌&&◌, true, false, Bool, IsTrue, ◌↔◌, List, length, get_or, nat_lt, nat_le, arith, inl, inr, if◌then◌else◌, Option, Some, None, subst, sym, ◌∙◌}
-use Rattle.std.specs.List.{Contains}
+use Rattle.std.proofs.Common.{◌≡◌, refl, ℕ, ◌<◌, ◌≤◌, true, IsTrue, ◌↔◌, length, nat_lt, nat_le, arith, inl, inr, if◌then◌else◌, Option, Some, None, subst, sym, ◌∙◌}
 use Rattle.std.proofs.lemmas.Bool.{and_parts, and_from, cases_Bool, false≢true}
 use Rattle.std.proofs.lemmas.Bool.Decides.{nat_tests}
 use Rattle.pm_routes.specs.Routings.{Routing, IsDrawn, place_of, count_at, others_at, is_drawn}
@@ -43,7 +42,8 @@ is_drawn-from r var from d =
 pub is_drawn-is : (r : Routing) (var from : ℕ) → IsTrue (is_drawn r var from) ↔ IsDrawn r var from
 is_drawn-is r var from = (is_drawn-told r var from, is_drawn-from r var from)
 
-pub exactly : (r : Routing) (var from : ℕ) (o : Option ℕ) → o ≡ (if is_drawn r var from then Some from else None) → (o ≡ Some from) ↔ IsDrawn r var from
+pub exactly : (r : Routing) (var from : ℕ) (o : Option ℕ) → o ≡ (if is_drawn r var from then Some from else None)
+    → (o ≡ Some from) ↔ IsDrawn r var from
 exactly r var from o is = elim (cases_Bool (is_drawn r var from)) [
   | inl h ↦ (λ _. is_drawn-told r var from h, λ _. rw (is, h) refl)
   | inr h ↦ (

@@ -1,10 +1,9 @@
 -- The place of a port among the ports.
-use Rattle.std.proofs.Common.{rules, ◌≡◌, inl, inr, refl, ℕ, zero, suc, ◌+◌, ◌<◌, ◌≤◌, ◌==◌, true, false, cond, Bool, List, [], ◌∷◌, length, get_or, drop, arith, sym, ◌∙◌, ap, subst, Option, Some, None}
+use Rattle.std.proofs.Common.{rules, ◌≡◌, inl, inr, ℕ, zero, suc, ◌+◌, ◌<◌, ◌≤◌, ◌==◌, cond, List, [], ◌∷◌, length, get_or, drop, arith, sym, ◌∙◌, subst, Option, Some}
 use Rattle.std.specs.Option.{unwrap_or}
 use Rattle.std.specs.Ordering.{nat_cmp, is_eq}
 use Rattle.std.proofs.Math.Seq.{drop-cons}
 use Rattle.std.proofs.lemmas.Bool.{cases_Bool}
-use Rattle.std.specs.List.{Contains}
 use Rattle.std.proofs.lemmas.Bool.Decides.{nat_tests}
 use Rattle.pm_routes.specs.Routings.{place_of}
 
@@ -27,14 +26,18 @@ at-is : (a b : ℕ) → is_eq (nat_cmp a b) ≡ (a == b)
 at-is a b = grind (arith, nat_tests, rules)
 
 -- a port put before the others takes its place from a later one
-pub first-more : (p : ℕ) (rest : List ℕ) (k n port : ℕ) (new old : Option ℕ) → new ≡ cond (is_eq (nat_cmp p port)) (Some k) old → unwrap_or old n ≡ k + 1 + place_of rest port → unwrap_or new n ≡ k + place_of (p ∷ rest) port
+pub first-more : (p : ℕ) (rest : List ℕ) (k n port : ℕ) (new old : Option ℕ)
+    → new ≡ cond (is_eq (nat_cmp p port)) (Some k) old → unwrap_or old n ≡ k + 1 + place_of rest port
+    → unwrap_or new n ≡ k + place_of (p ∷ rest) port
 first-more p rest k n port new old is h = elim (cases_Bool (p == port)) [
   | inl e ↦ (let w = at-is p port ∙ e in rw (is, w, e) (omega arith))
   | inr e ↦ (let w = at-is p port ∙ e in rw (is, w, e) (omega (arith, h)))
 ]
 
 -- the same of a list from that place on
-pub first-at : (ps : List ℕ) (k n port : ℕ) (new old : Option ℕ) (d : ℕ) → k < length ps → new ≡ cond (is_eq (nat_cmp (get_or ps k d) port)) (Some k) old → unwrap_or old n ≡ k + 1 + place_of (drop (k + 1) ps) port → unwrap_or new n ≡ k + place_of (drop k ps) port
+pub first-at : (ps : List ℕ) (k n port : ℕ) (new old : Option ℕ) (d : ℕ) → k < length ps
+    → new ≡ cond (is_eq (nat_cmp (get_or ps k d) port)) (Some k) old
+    → unwrap_or old n ≡ k + 1 + place_of (drop (k + 1) ps) port → unwrap_or new n ≡ k + place_of (drop k ps) port
 first-at ps k n port new old d low is h =
     let more : suc k ≡ k + 1 = omega arith in
     subst (λ xs. unwrap_or new n ≡ k + place_of xs port) (sym (drop-cons ps k d low))

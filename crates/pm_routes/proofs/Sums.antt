@@ -1,5 +1,5 @@
 -- The counts of a variable and their sum.
-use Rattle.std.proofs.Common.{◌≡◌, refl, ℕ, zero, suc, ◌+◌, ◌-◌, ◌*◌, ◌<◌, ◌≤◌, ◌^◌, List, [], ◌∷◌, ◌++◌, length, get_or, set, replicate, arith, sym, ◌∙◌, ap, subst}
+use Rattle.std.proofs.Common.{◌≡◌, refl, ℕ, zero, suc, ◌+◌, ◌-◌, ◌*◌, ◌<◌, ◌≤◌, ◌^◌, List, [], ◌∷◌, length, get_or, set, replicate, arith, sym, subst}
 use Rattle.std.proofs.lemmas.List.{length-replicate, length-set}
 use Rattle.pm_routes.specs.Routings.{total}
 use Rattle.pm_routes.specs.Laid.{IsSummed}
@@ -23,7 +23,8 @@ total-set [] k x h = absurd (omega (arith, h))
 total-set (n ∷ ns) zero x h = omega arith
 total-set (n ∷ ns) (suc k) x h = (let again = total-set ns k x (omega (arith, h)) in omega (arith, again))
 
-pub small-set : (ns : List ℕ) (k x b : ℕ) → x < b → ((j : ℕ) → get_or ns j 0 < b) → (j : ℕ) → get_or (set ns k x) j 0 < b
+pub small-set : (ns : List ℕ) (k x b : ℕ) → x < b → ((j : ℕ) → get_or ns j 0 < b) → (j : ℕ)
+    → get_or (set ns k x) j 0 < b
 small-set [] k x b h s j = s j
 small-set (n ∷ ns) zero x b h s zero = h
 small-set (n ∷ ns) zero x b h s (suc j) = s (suc j)
@@ -54,7 +55,8 @@ sum-holds ns sum k s h = (let parts = total-others ns k h in let is = s.sum in o
 pub sum-room : (ns : List ℕ) (sum : ℕ) → IsSummed ns sum → sum + 1 < 2 ^ 128
 sum-room ns sum s = (let bound = total-bound ns s.small in let few = s.few in let is = s.sum in omega (arith, bound, few, is))
 
-pub summed-set : (ns : List ℕ) (sum k x : ℕ) → IsSummed ns sum → k < length ns → x < 2 ^ 64 → get_or ns k 0 ≤ x → IsSummed (set ns k x) (sum + (x - get_or ns k 0))
+pub summed-set : (ns : List ℕ) (sum k x : ℕ) → IsSummed ns sum → k < length ns → x < 2 ^ 64 → get_or ns k 0 ≤ x
+    → IsSummed (set ns k x) (sum + (x - get_or ns k 0))
 summed-set ns sum k x s h low more =
     let parts = total-others ns k h in
     let now = total-set ns k x h in

@@ -9,6 +9,6 @@ mod routes;
 mod tests;
 mod way;
 
-pub use laws::{sample_counts, tests_tell_the_draw};
+pub use laws::{counts_one, sample_counts, tests_tell_the_draw};
 pub use routes::Routes;
 pub use way::Way;

@@ -1,7 +1,7 @@
-ghost use Rattle.std.specs.Prelude.{◌≡◌, ℕ, length, IfOk};
-ghost use Rattle.std.specs.Option.{unwrap_or};
+ghost use Rattle.std.specs.Prelude.{◌≡◌, length, IfOk};
 ghost use Rattle.std.specs.Ordering.{nat_cmp};
 ghost use Rattle.std.specs.BTreeMap.{get};
+ghost use Rattle.pm_routes.specs.Laid.{KnowsPlaces};
 ghost use Rattle.pm_routes.specs.Routings.{place_of};
 
 use pm_base::{List, Memory};
@@ -17,17 +17,16 @@ pub struct Places {
 }
 
 impl Model for Places {
-    ghost use Rattle.std.specs.Prelude.{List as Seq, ℕ, ◌≡◌, length};
-    ghost use Rattle.std.specs.Option.{unwrap_or};
+    ghost use Rattle.std.specs.Prelude.{List as Seq, ℕ};
     ghost use Rattle.std.specs.Ordering.{nat_cmp};
     ghost use Rattle.std.specs.BTreeMap.{get};
-    ghost use Rattle.pm_routes.specs.Routings.{place_of};
+    ghost use Rattle.pm_routes.specs.Laid.{KnowsPlaces};
 
     ghost Value = { Seq ℕ };
 
     ghost view = { λ p. p.ports.items };
 
-    ghost invariant = { λ p. (port : ℕ) → unwrap_or (get nat_cmp p.first port) (length p.ports.items) ≡ place_of p.ports.items port };
+    ghost invariant = { λ p. KnowsPlaces (get nat_cmp p.first) p.ports.items };
 }
 
 impl Places {
@@ -36,11 +35,8 @@ impl Places {
         ensures { IfOk result (λ p. p ≡ ports.now) }
     {
         let first = first_places(alloc, ports.as_slice())?;
-        let mut copy = Vec::new(alloc);
-        for port in ports.as_slice() {
-            copy.push(*port)?;
-        }
-        Ok(Places { ports: copy, first })
+        let ports = Vec::from_slice(alloc, ports.as_slice())?;
+        Ok(Places { ports, first })
     }
 
     /// How many ports there are.
@@ -63,7 +59,7 @@ impl Places {
 
 /// The first place of each port. From the last port to the first, so that an earlier place takes the later one's.
 fn first_places(alloc: Global, ports: &[u32]) -> Result<BTreeMap<u32, usize>, Memory>
-    ensures { IfOk result (λ m. (port : ℕ) → unwrap_or (get nat_cmp m port) (length ports.now) ≡ place_of ports.now port) }
+    ensures { IfOk result (λ m. KnowsPlaces (get nat_cmp m) ports.now) }
 {
     let mut first = BTreeMap::new(alloc);
     for place in (0..ports.len()).rev() {

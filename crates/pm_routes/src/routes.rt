@@ -20,12 +20,12 @@ pub struct Routes {
 }
 
 impl Model for Routes {
-    ghost use Rattle.pm_routes.specs.Routings.{Routing};
+    ghost use Rattle.pm_routes.specs.Routings.{Routing, routing};
     ghost use Rattle.pm_routes.specs.Laid.{IsLaid};
 
     ghost Value = { Routing };
 
-    ghost view = { λ r. record { ways = r.ways; ports = r.places; move_after = r.move_after; counts = r.counts.items } };
+    ghost view = { λ r. routing r.ways r.places r.move_after r.counts.items };
 
     ghost invariant = { λ r. IsLaid r.ways r.places r.counts.items };
 }

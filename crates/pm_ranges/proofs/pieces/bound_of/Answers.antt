@@ -1,4 +1,4 @@
-use Rattle.std.proofs.Common.{◌≡◌, ◌∙◌, sym, ap, subst, Some, None}
+use Rattle.std.proofs.Common.{◌≡◌, sym, subst, Some, None}
 use Rattle.std.specs.Prelude.{slice_get}
 use Rattle.pm_ranges.proofs.Laying.{bound-some, bound-none}
 use Rattle.pm_ranges.proofs.pieces.bound_of.Goals as goal

@@ -1,6 +1,5 @@
-use Rattle.std.proofs.Common.{◌≡◌, ◌∙◌, sym, subst}
+use Rattle.std.proofs.Common.{◌∙◌, sym, subst}
 use Rattle.pm_ranges.specs.Laid.{Rising, AllUpright}
-use Rattle.pm_ranges.specs.Known.{parted_at}
 use Rattle.pm_ranges.proofs.Laying.{rising-at, upright-parts}
 use Rattle.pm_ranges.proofs.pieces.grown.Goals as goal
 

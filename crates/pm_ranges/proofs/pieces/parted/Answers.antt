@@ -1,8 +1,5 @@
-use Rattle.std.proofs.Common.{◌≡◌, ◌∙◌, ◌++◌, ◌∷◌, take, drop, sym, ap, subst, true, false}
-use Rattle.pm_base.specs.declared.stamp.Stamp.{Stamp}
-use Rattle.pm_ranges.specs.declared.piece.Piece.{Piece}
-use Rattle.pm_ranges.specs.Known.{bound_of, parted}
-use Rattle.pm_ranges.specs.Laid.{before, ends_at}
+use Rattle.std.proofs.Common.{◌≡◌, ◌∙◌, drop, sym, subst, true}
+use Rattle.pm_ranges.specs.Laid.{ends_at}
 use Rattle.pm_ranges.proofs.Laying.{parted-there, parted-put}
 use Rattle.pm_ranges.proofs.pieces.parted.Goals as goal
 

@@ -1,5 +1,4 @@
 use Rattle.std.proofs.Common.{◌≡◌, ◌<◌, ◌+◌, suc, ◌∙◌, ◌++◌, map, take, drop, set, get_or, length, sym, ap, subst, arith}
-use Rattle.std.proofs.lemmas.List.{get_or_default}
 use Rattle.pm_ranges.specs.declared.piece.Piece.{Piece}
 use Rattle.pm_ranges.specs.Known.{raised_one}
 use Rattle.pm_ranges.specs.Laid.{Upright}

@@ -1,5 +1,5 @@
-use Rattle.std.proofs.Common.{◌≡◌, ◌∙◌, ◌&&◌, sym, ap, true, false}
-use Rattle.pm_ranges.specs.Known.{ends_covered, last_covered, covers}
+use Rattle.std.proofs.Common.{◌∙◌, ◌&&◌, sym, ap}
+use Rattle.pm_ranges.specs.Known.{last_covered}
 use Rattle.pm_ranges.proofs.Grows.{told-covered}
 use Rattle.pm_ranges.proofs.Laying.{covers-lent}
 use Rattle.pm_ranges.proofs.bounds.Bounds.covers.Goals as goal

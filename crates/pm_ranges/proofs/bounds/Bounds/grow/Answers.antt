@@ -1,7 +1,4 @@
-use Rattle.std.proofs.Common.{◌≡◌, ◌∙◌, sym, ap, subst, false}
-use Rattle.pm_base.specs.Windows.{is_inverted}
-use Rattle.pm_ranges.specs.Laid.{IsLaid}
-use Rattle.pm_ranges.specs.Known.{covers, parted_at, raised, raised_rest}
+use Rattle.std.proofs.Common.{◌∙◌, sym}
 use Rattle.pm_ranges.proofs.Grows.{told-grown}
 use Rattle.pm_ranges.proofs.Laying.{laid-grown}
 use Rattle.pm_ranges.proofs.bounds.Bounds.grow.Goals as goal

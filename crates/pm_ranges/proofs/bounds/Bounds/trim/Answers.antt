@@ -1,5 +1,3 @@
-use Rattle.std.proofs.Common.{sym, subst}
-use Rattle.pm_ranges.specs.Laid.{IsLaid}
 use Rattle.pm_ranges.proofs.Laying.{laid-trimmed}
 use Rattle.pm_ranges.proofs.bounds.Bounds.trim.Goals as goal
 

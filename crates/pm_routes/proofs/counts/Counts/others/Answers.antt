@@ -1,6 +1,5 @@
-use Rattle.std.proofs.Common.{◌≡◌, ◌≤◌, ◌-◌, ◌<◌, length, sym, ◌∙◌, ap, subst, get_or}
+use Rattle.std.proofs.Common.{◌≡◌, ◌<◌, length, ◌∙◌, get_or}
 use Rattle.std.proofs.lemmas.List.{get_or_default}
-use Rattle.pm_routes.specs.Routings.{total}
 use Rattle.pm_routes.proofs.Sums.{sum-others, sum-holds}
 use Rattle.pm_routes.proofs.counts.Counts.others.Goals as goal
 

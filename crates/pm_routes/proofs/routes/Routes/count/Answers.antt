@@ -1,7 +1,7 @@
-use Rattle.std.proofs.Common.{◌≡◌, ◌<◌, nat_lt, ℕ, List, [], length, set, get_or, sym, ◌∙◌, ap, subst, arith}
+use Rattle.std.proofs.Common.{◌≡◌, nat_lt, [], length, set, sym, ◌∙◌, ap, arith}
 use Rattle.pm_routes.specs.Routings.{Routing}
 use Rattle.pm_routes.proofs.Draws.{exactly}
-use Rattle.pm_routes.proofs.Rooms.{exists-here, each-has, row-is, row-set, place-room, answer-is}
+use Rattle.pm_routes.proofs.Rooms.{exists-here, each-has, row-set, place-room, answer-is}
 use Rattle.std.proofs.lemmas.List.{get_or-set_same, length-set}
 use Rattle.pm_routes.proofs.routes.Routes.count.Goals as goal
 
