@@ -41,6 +41,6 @@ pub record FittingIsKept (b : Known) (s : Stamp) (u : Window) : Type 0 where
   pub nothing : Fits s u nothing_known
   pub grown : (when : Interval) (w : Window) → is_below s b.line ≡ false →
       Fits s u (grown when w b) ↔ (Fits s u b × (holds when s ≡ true → within w u ≡ true))
-  pub covered : (when : Interval) (w : Window) → covers b when w ≡ true → is_below s b.line ≡ false → holds when s ≡ true →
-      Fits s u b → within w u ≡ true
+  pub covered : (when : Interval) (w : Window) → covers b when w ≡ true → is_below s b.line ≡ false →
+      holds when s ≡ true → Fits s u b → within w u ≡ true
   pub trimmed : (l : Line) → is_below s l ≡ false → Fits s u (trimmed l b) ↔ Fits s u b

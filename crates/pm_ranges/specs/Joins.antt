@@ -40,7 +40,11 @@ abbrev pub IsIn : Option Window → Window → Type 0
 IsIn None u = Unit {0}
 IsIn (Some w) u = within w u ≡ true
 
+-- the row says nothing of the stamp, or that values are within this window
+abbrev pub Small : Stamp → Window → Row → Type 0
+Small s u r = holds r.when s ≡ true → within r.window u ≡ true
+
 -- each window whose interval holds the stamp is within this one
 abbrev pub AllIn : List Row → Stamp → Window → Type 0
 AllIn [] s u = Unit {0}
-AllIn (r ∷ rs) s u = (holds r.when s ≡ true → within r.window u ≡ true) × AllIn rs s u
+AllIn (r ∷ rs) s u = Small s u r × AllIn rs s u

@@ -31,8 +31,8 @@ impl Model for Routes {
 }
 
 impl Routes {
-    /// These ways, one for each variable, with all counts at 0. The ports may stand in any order; where one stands
-    /// twice, its first place counts. An access counts `move_after` times before its variable moves, 0 for never.
+    /// These ways, one for each variable, with all counts at 0, and the tree ports, in any order; a port that stands
+    /// twice has one count. `move_after` is how many counts at a port draw a variable there, 0 for never.
     pub fn make(
         alloc: Global,
         ways: &List<Way>,
