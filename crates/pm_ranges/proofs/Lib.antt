@@ -1,0 +1,5 @@
+pub mod Covers
+pub mod Grows
+pub mod Laying
+pub mod Parting
+pub mod Windows

@@ -1,0 +1,4 @@
+pub mod Draws
+pub mod Finds
+pub mod Sums
+pub mod Rooms
