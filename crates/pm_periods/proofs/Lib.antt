@@ -1,0 +1,5 @@
+pub mod Keys
+pub mod Ordered
+pub mod Hits
+pub mod Walks
+pub mod Looks

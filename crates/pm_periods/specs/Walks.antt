@@ -1,0 +1,47 @@
+-- Puts with the mark whether they are live, and the walk along them.
+use Rattle.std.specs.Prelude.{◌&&◌, if◌then◌else◌, List, [], ◌∷◌}
+use Rattle.pm_base.specs.Changes.{applied}
+use Rattle.pm_base.specs.Stamps.{is_below}
+use Rattle.pm_base.specs.declared.rows.CutRow.{CutRow}
+use Rattle.pm_base.specs.declared.rows.PutRow.{PutRow}
+use Rattle.pm_base.specs.declared.stamp.Line.{Line}
+use Rattle.pm_base.specs.declared.stamp.Line.TheVariants as line
+use Rattle.pm_base.specs.declared.stamp.Stamp.{Stamp}
+use Rattle.pm_base.specs.declared.value.Value.{Value}
+use Rattle.pm_periods.specs.Records.{is_live}
+use Rattle.pm_periods.specs.Rows.{put_key}
+use Rattle.pm_periods.specs.declared.held.Held.{Held}
+use Rattle.pm_periods.specs.declared.rows.RowKey.{RowKey}
+
+abbrev pub held_row : Held → PutRow
+held_row h = h.row
+
+abbrev pub held_key : Held → RowKey
+held_key h = put_key h.row
+
+-- a put with the mark whether it is live
+abbrev pub marked : List CutRow → PutRow → Held
+marked cuts p = record { row = p; live = is_live cuts p }
+
+-- the value after a put, where it is live
+abbrev pub step : Held → Value → Value
+step h v = if h.live then applied h.row.change v else v
+
+-- the puts that are left, and the value before them
+pub record Walk : Type 0 where
+  pub rest : List Held
+  pub value : Value
+
+-- on past the puts below the line, up to the first that isn't
+abbrev pub walk : Line → List Held → Value → Walk
+walk l [] v = record { rest = []; value = v }
+walk l (h ∷ hs) v = if is_below h.row.stamp l then walk l hs (step h v) else record { rest = h ∷ hs; value = v }
+
+-- the value after all of these that are live and below the line
+abbrev pub held_value : Line → List Held → Value → Value
+held_value l [] v = v
+held_value l (h ∷ hs) v = held_value l hs (if h.live && is_below h.row.stamp l then applied h.row.change v else v)
+
+-- what a read at this stamp sees
+abbrev pub seen_by : List Held → Value → Stamp → Value
+seen_by hs v s = held_value (line.At s) hs v

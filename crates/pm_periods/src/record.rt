@@ -1,0 +1,177 @@
+ghost use Rattle.std.specs.Prelude.{◌≡◌, ◌+◌, ◌≤◌, ◌∷◌, [], ◌++◌, false, length, map, take, drop, vec_len, vec_capacity, IfOk, OnOk, OnErr};
+ghost use Rattle.std.specs.List.{All};
+ghost use Rattle.std.specs.Option.{option_to_list};
+ghost use Rattle.pm_base.specs.Stamps.{is_below, stamp_lt};
+ghost use Rattle.pm_periods.specs.Records.{HaveTurns, after_cut, after_put, after_watch, changed_of, cut_row, empty_record, first_read, fresh_read, gives_of_cut, gives_of_put, gives_of_watch, kept_of, record_value, trimmed, with_parts};
+ghost use Rattle.pm_periods.specs.Rows.{IsInOrder, read_key};
+ghost use Rattle.pm_periods.specs.Walks.{held_key, seen_by};
+
+use crate::held::{Held, give, hit_in, refresh, value_at_line};
+use crate::rows::{RowKey, add, has, number_place, place};
+use pm_base::{CutRow, GiveRow, Line, List, Memory, Num, PutRow, ReadRow, Stamp, Value, Window};
+use std::alloc::Global;
+use std::marker::Model;
+
+/// One variable's record. Contracts see it as the variable's number and the record's `Parts`.
+#[derive(Debug, Drop)]
+pub struct VarRecord {
+    pub(crate) var: u32,
+    pub(crate) base: Value,
+    pub(crate) puts: Vec<Held>,
+    pub(crate) cuts: Vec<CutRow>,
+    pub(crate) reads: Vec<ReadRow>,
+}
+
+impl Model for VarRecord {
+    ghost use Rattle.pm_periods.specs.Records.{Record};
+
+    ghost Value = { Record };
+
+    ghost use Rattle.pm_periods.specs.Inner.{record_of, IsSound};
+
+    ghost view = { record_of };
+
+    ghost invariant = { IsSound };
+}
+
+impl VarRecord {
+    /// A record without a row. It takes no memory: `alloc` is where later rows take it from.
+    pub fn new(alloc: Global, var: u32, base: Value) -> VarRecord {
+        VarRecord {
+            var,
+            base,
+            puts: Vec::new(alloc),
+            cuts: Vec::new(alloc),
+            reads: Vec::new(alloc),
+        }
+    }
+
+    /// Receives a write, and tells the changed hits in order of the reads' stamps and numbers.
+    pub fn put(&mut self, alloc: Global, row: PutRow) -> Result<List<GiveRow>, Memory> {
+        if has(self.puts.as_slice(), row.num) {
+            return Ok(List::new(alloc));
+        }
+        let live = !has(self.cuts.as_slice(), row.num);
+        let after = reads_up_to(self.reads.as_slice(), row.stamp);
+        let mut gives = Vec::with_capacity(alloc, self.reads.len() - after)?;
+        add(&mut self.puts, Held { row, live })?;
+        let reads = &mut self.reads;
+        refresh_from(
+            self.var,
+            self.puts.as_slice(),
+            self.base,
+            reads,
+            after,
+            &mut gives,
+        );
+        Ok(List::from_vec(gives))
+    }
+
+    /// Receives the withdrawal of a write, which may be the first that is heard of that write, and tells the changed
+    /// hits in order of the reads' stamps and numbers.
+    pub fn cut(&mut self, alloc: Global, num: Num, stamp: Stamp) -> Result<List<GiveRow>, Memory> {
+        if has(self.cuts.as_slice(), num) {
+            return Ok(List::new(alloc));
+        }
+        let named = number_place(self.puts.as_slice(), num);
+        let mut after = self.reads.len();
+        if named < self.puts.len() {
+            after = reads_up_to(self.reads.as_slice(), self.puts[named].row.stamp);
+        }
+        let mut gives = Vec::with_capacity(alloc, self.reads.len() - after)?;
+        add(&mut self.cuts, CutRow { num, stamp })?;
+        if named < self.puts.len() {
+            self.puts[named].live = false;
+        }
+        let reads = &mut self.reads;
+        refresh_from(
+            self.var,
+            self.puts.as_slice(),
+            self.base,
+            reads,
+            after,
+            &mut gives,
+        );
+        Ok(List::from_vec(gives))
+    }
+
+    /// Receives a read, and tells its first hit where there is one.
+    pub fn watch(
+        &mut self,
+        alloc: Global,
+        num: Num,
+        stamp: Stamp,
+        window: Window,
+    ) -> Result<Option<GiveRow>, Memory> {
+        if has(self.reads.as_slice(), num) {
+            return Ok(None);
+        }
+        let hit = hit_in(self.value_at(stamp), &window);
+        let turn = if hit.is_some() { 1 } else { 0 };
+        let row = ReadRow {
+            num,
+            stamp,
+            window,
+            turn,
+            hit,
+        };
+        add(&mut self.reads, row)?;
+        if turn == 0 {
+            return Ok(None);
+        }
+        Ok(Some(give(self.var, &row)))
+    }
+
+    /// What a read at this stamp sees. It takes no memory.
+    pub fn value_at(&self, s: Stamp) -> Value {
+        value_at_line(self.puts.as_slice(), self.base, Line::At(s))
+    }
+
+    /// Forgets what is below the line, and keeps what a read at any stamp not below it sees. It takes no memory.
+    pub fn trim(&mut self, line: Line) {
+        self.base = value_at_line(self.puts.as_slice(), self.base, line);
+        self.puts.retain(|h| !line.is_past(h.row.stamp));
+        let puts = self.puts.as_slice();
+        self.cuts
+            .retain(|c| !line.is_past(c.stamp) || has(puts, c.num));
+        self.reads.retain(|q| !line.is_past(q.stamp));
+    }
+
+    /// How many puts, cuts and reads are kept, at most `u64::MAX`. It takes no memory.
+    pub fn kept(&self) -> u64 {
+        let puts = self.puts.len() as u64;
+        let cuts = self.cuts.len() as u64;
+        let reads = self.reads.len() as u64;
+        puts.saturating_add(cuts).saturating_add(reads)
+    }
+}
+
+// How many of the reads don't stand after the stamp: no put there is seen by them.
+fn reads_up_to(reads: &[ReadRow], stamp: Stamp) -> usize {
+    let num = Num {
+        agent: u32::MAX,
+        seq: u64::MAX,
+    };
+    place(reads, RowKey { stamp, num })
+}
+
+// Refreshes the reads from that place on.
+fn refresh_from(
+    var: u32,
+    puts: &[Held],
+    base: Value,
+    reads: &mut Vec<ReadRow>,
+    after: usize,
+    gives: &mut Vec<GiveRow>,
+)
+    requires puts { IsInOrder held_key puts.now }
+    requires reads { IsInOrder read_key reads.old.items }
+    requires turns { HaveTurns reads.old.items }
+    requires within { after ≤ length reads.old.items }
+    requires room { vec_len gives.old + length reads.old.items ≤ vec_capacity gives.old + after }
+    ensures reads { reads.new.items ≡ take after reads.old.items ++
+        map (fresh_read (seen_by puts.now base)) (drop after reads.old.items) }
+    ensures gives { gives.new.items ≡ gives.old.items ++ changed_of var (seen_by puts.now base) (drop after reads.old.items) }
+{
+    refresh(var, puts, base, &mut reads[after..], gives);
+}
