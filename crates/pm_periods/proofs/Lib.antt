@@ -1,5 +1,7 @@
 pub mod Keys
 pub mod Ordered
+pub mod Numbers
 pub mod Hits
 pub mod Walks
 pub mod Looks
+pub mod Receipts

@@ -1,12 +1,12 @@
 -- A loop that looks at each read in turn, with the walk along the puts.
-use Rattle.std.proofs.Common.{◌≡◌, ℕ, ◌+◌, ◌<◌, List, [], ◌∷◌, ◌++◌, length, get_or, set, take, drop, map, refl, arith, ap, sym, ◌∙◌, subst, append_assoc}
+use Rattle.std.proofs.Common.{◌≡◌, ℕ, ◌+◌, ◌<◌, pos, Option, None, List, [], ◌∷◌, ◌++◌, length, get_or, set, take, drop, map, refl, arith, ap, sym, ◌∙◌, subst, append_assoc}
 use Rattle.std.proofs.lemmas.List.{drop_more, take_more}
 use Rattle.pm_base.specs.declared.rows.GiveRow.{GiveRow}
 use Rattle.pm_base.specs.declared.rows.ReadRow.{ReadRow}
 use Rattle.pm_base.specs.declared.stamp.Line.TheVariants as line
 use Rattle.pm_base.specs.declared.stamp.Stamp.{Stamp}
 use Rattle.pm_base.specs.declared.value.Value.{Value}
-use Rattle.pm_periods.specs.Records.{changed_of, fresh_read, with_hit}
+use Rattle.pm_periods.specs.Records.{changed_of, hit_in, with_hit}
 use Rattle.pm_periods.specs.Rows.{IsInOrder, read_key}
 use Rattle.pm_periods.specs.Walks.{Walk, held_key, seen_by, walk}
 use Rattle.pm_periods.specs.declared.held.Held.{Held}
@@ -49,3 +49,9 @@ module _ (all : List Held) (base : Value) (sorted : IsInOrder held_key all) (rea
       let more : changed_of var sees (take (i + 1) reads) ≡ changed_of var sees (take i reads) ++ changed_of var sees (q ∷ []) = ap (changed_of var sees) (take_more reads i d lt) ∙ changed_of-append var sees (take i reads) (q ∷ []) in
       f ∙ (ap (λ z. z ++ changed_of var (λ _. v') (get_or now i d ∷ [])) e ∙ (ap (λ z. (before ++ changed_of var sees (take i reads)) ++ z) one
       ∙ (append_assoc before (changed_of var sees (take i reads)) (changed_of var sees (q ∷ [])) ∙ ap (λ z. before ++ z) (sym more))))
+
+abbrev pub no_read : ReadRow
+no_read = record { num = record { agent = 0; seq = 0 }; stamp = record { time = 0; agent = 0 }; window = record { x0 = pos 0; x1 = pos 0; y0 = pos 0; y1 = pos 0 }; turn = 0; hit = None }
+
+pub hit_written : (q : ReadRow) (v : Value) (h : Option Value) → h ≡ hit_in v q.window → record { num = q.num; stamp = q.stamp; window = q.window; turn = q.turn; hit = h } ≡ with_hit (λ _. v) q
+hit_written q v h e = λ i. record { num = q.num; stamp = q.stamp; window = q.window; turn = q.turn; hit = e i }

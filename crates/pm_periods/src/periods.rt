@@ -9,7 +9,9 @@ use std::alloc::Global;
 impl VarRecord {
     /// The values that reads after `from` see, or all reads where there is none, as periods in order. The first begins
     /// at `from`, each ends at the next stamp at which a live put stands, and the last has no end.
-    pub fn periods_from(&self, alloc: Global, from: Option<Stamp>) -> Result<List<Period>, Memory> {
+    pub fn periods_from(&self, alloc: Global, from: Option<Stamp>) -> Result<List<Period>, Memory>
+        ensures { IfOk result (λ periods. periods ≡ periods_from self.now.parts from) }
+    {
         let mut periods = List::new(alloc);
         let mut start = from;
         let mut value = self.base;
@@ -25,14 +27,18 @@ impl VarRecord {
     }
 }
 
-fn is_after(from: Option<Stamp>, s: Stamp) -> bool {
+fn is_after(from: Option<Stamp>, s: Stamp) -> bool
+    ensures { result ≡ is_after from s }
+{
     match from {
         Some(from) => from.is_before(&s),
         None => true,
     }
 }
 
-fn period(from: Option<Stamp>, until: Option<Stamp>, value: Value) -> Period {
+fn period(from: Option<Stamp>, until: Option<Stamp>, value: Value) -> Period
+    ensures { result ≡ record { when = record { from = from; until = until }; value = value } }
+{
     Period {
         when: Interval { from, until },
         value,

@@ -36,7 +36,9 @@ impl Model for VarRecord {
 
 impl VarRecord {
     /// A record without a row. It takes no memory: `alloc` is where later rows take it from.
-    pub fn new(alloc: Global, var: u32, base: Value) -> VarRecord {
+    pub fn new(alloc: Global, var: u32, base: Value) -> VarRecord
+        ensures { result ≡ empty_record var base }
+    {
         VarRecord {
             var,
             base,
@@ -47,7 +49,12 @@ impl VarRecord {
     }
 
     /// Receives a write, and tells the changed hits in order of the reads' stamps and numbers.
-    pub fn put(&mut self, alloc: Global, row: PutRow) -> Result<List<GiveRow>, Memory> {
+    pub fn put(&mut self, alloc: Global, row: PutRow) -> Result<List<GiveRow>, Memory>
+        requires turns { HaveTurns self.old.parts.reads }
+        ensures ok { OnOk result (self.new ≡ with_parts self.old (after_put row self.old.parts)) }
+        ensures gives { IfOk result (λ gives. gives ≡ gives_of_put self.old.var row self.old.parts) }
+        ensures err { OnErr result (self.new ≡ self.old) }
+    {
         if has(self.puts.as_slice(), row.num) {
             return Ok(List::new(alloc));
         }
@@ -69,7 +76,12 @@ impl VarRecord {
 
     /// Receives the withdrawal of a write, which may be the first that is heard of that write, and tells the changed
     /// hits in order of the reads' stamps and numbers.
-    pub fn cut(&mut self, alloc: Global, num: Num, stamp: Stamp) -> Result<List<GiveRow>, Memory> {
+    pub fn cut(&mut self, alloc: Global, num: Num, stamp: Stamp) -> Result<List<GiveRow>, Memory>
+        requires turns { HaveTurns self.old.parts.reads }
+        ensures ok { OnOk result (self.new ≡ with_parts self.old (after_cut (cut_row num stamp) self.old.parts)) }
+        ensures gives { IfOk result (λ gives. gives ≡ gives_of_cut self.old.var (cut_row num stamp) self.old.parts) }
+        ensures err { OnErr result (self.new ≡ self.old) }
+    {
         if has(self.cuts.as_slice(), num) {
             return Ok(List::new(alloc));
         }
@@ -102,7 +114,13 @@ impl VarRecord {
         num: Num,
         stamp: Stamp,
         window: Window,
-    ) -> Result<Option<GiveRow>, Memory> {
+    ) -> Result<Option<GiveRow>, Memory>
+        requires turns { HaveTurns self.old.parts.reads }
+        ensures ok { OnOk result (self.new ≡ with_parts self.old (after_watch (first_read num stamp window) self.old.parts)) }
+        ensures gives { IfOk result (λ give. option_to_list give ≡
+            gives_of_watch self.old.var (first_read num stamp window) self.old.parts) }
+        ensures err { OnErr result (self.new ≡ self.old) }
+    {
         if has(self.reads.as_slice(), num) {
             return Ok(None);
         }
@@ -123,12 +141,17 @@ impl VarRecord {
     }
 
     /// What a read at this stamp sees. It takes no memory.
-    pub fn value_at(&self, s: Stamp) -> Value {
+    pub fn value_at(&self, s: Stamp) -> Value
+        ensures { result ≡ record_value self.now.parts s }
+    {
         value_at_line(self.puts.as_slice(), self.base, Line::At(s))
     }
 
     /// Forgets what is below the line, and keeps what a read at any stamp not below it sees. It takes no memory.
-    pub fn trim(&mut self, line: Line) {
+    pub fn trim(&mut self, line: Line)
+        ensures value { self.new ≡ with_parts self.old (trimmed line self.old.parts) }
+        ensures keeps { (s : Stamp) → is_below s line ≡ false → record_value self.new.parts s ≡ record_value self.old.parts s }
+    {
         self.base = value_at_line(self.puts.as_slice(), self.base, line);
         self.puts.retain(|h| !line.is_past(h.row.stamp));
         let puts = self.puts.as_slice();
@@ -138,7 +161,9 @@ impl VarRecord {
     }
 
     /// How many puts, cuts and reads are kept, at most `u64::MAX`. It takes no memory.
-    pub fn kept(&self) -> u64 {
+    pub fn kept(&self) -> u64
+        ensures { result ≡ kept_of self.now.parts }
+    {
         let puts = self.puts.len() as u64;
         let cuts = self.cuts.len() as u64;
         let reads = self.reads.len() as u64;
@@ -147,7 +172,11 @@ impl VarRecord {
 }
 
 // How many of the reads don't stand after the stamp: no put there is seen by them.
-fn reads_up_to(reads: &[ReadRow], stamp: Stamp) -> usize {
+fn reads_up_to(reads: &[ReadRow], stamp: Stamp) -> usize
+    requires { IsInOrder read_key reads.now }
+    ensures within { result ≤ length reads.now }
+    ensures before { All (λ q. stamp_lt stamp q.stamp ≡ false) (take result reads.now) }
+{
     let num = Num {
         agent: u32::MAX,
         seq: u64::MAX,
