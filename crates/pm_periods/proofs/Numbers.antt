@@ -82,7 +82,7 @@ module _ {X : Type 0} (key : X → RowKey) where
   pub rows_in_order-distinct : (xs : List X) → AreDistinct key (rows_in_order key xs)
   rows_in_order-distinct xs = first_rows-distinct (add_rows key [] xs)
 
-  each_apart : (n : Num) (xs : List X) → has_num key n xs ≡ false → AllByRecursion (λ x. num_eq n (key x).num ≡ false) xs
+  pub each_apart : (n : Num) (xs : List X) → has_num key n xs ≡ false → AllByRecursion (λ x. num_eq n (key x).num ≡ false) xs
   each_apart n [] e = tt
   each_apart n (x ∷ xs) e = (let o = or_parts (num_eq n (key x).num) (has_num key n xs) e in (o.0, each_apart n xs o.1))
 
@@ -90,7 +90,7 @@ module _ {X : Type 0} (key : X → RowKey) where
   abbrev pub Named : Num → X → X → Type 0
   Named n r x = num_eq n (key x).num ≡ true → x ≡ r
 
-  pub no_other : (n : Num) (r : X) (xs : List X) → has_num key n xs ≡ false → AllByRecursion (Named n r) xs
+  no_other : (n : Num) (r : X) (xs : List X) → has_num key n xs ≡ false → AllByRecursion (Named n r) xs
   no_other n r [] e = tt
   no_other n r (x ∷ xs) e = (let o = or_parts (num_eq n (key x).num) (has_num key n xs) e in let f = o.0 in ((λ h. absurd cc), no_other n r xs o.1))
 

@@ -1,9 +1,10 @@
 -- Puts with the mark whether they are live, and the walk along them.
-use Rattle.std.specs.Prelude.{◌&&◌, if◌then◌else◌, List, [], ◌∷◌}
+use Rattle.std.specs.Prelude.{◌≡◌, ℕ, zero, suc, ◌<◌, ◌&&◌, false, if◌then◌else◌, List, [], ◌∷◌, length, slice_index_or}
 use Rattle.pm_base.specs.Changes.{applied}
-use Rattle.pm_base.specs.Stamps.{is_below}
+use Rattle.pm_base.specs.Stamps.{is_below, stamp_lt}
 use Rattle.pm_base.specs.declared.rows.CutRow.{CutRow}
 use Rattle.pm_base.specs.declared.rows.PutRow.{PutRow}
+use Rattle.pm_base.specs.declared.rows.ReadRow.{ReadRow}
 use Rattle.pm_base.specs.declared.stamp.Line.{Line}
 use Rattle.pm_base.specs.declared.stamp.Line.TheVariants as line
 use Rattle.pm_base.specs.declared.stamp.Stamp.{Stamp}
@@ -45,3 +46,13 @@ held_value l (h ∷ hs) v = held_value l hs (if h.live && is_below h.row.stamp l
 -- what a read at this stamp sees
 abbrev pub seen_by : List Held → Value → Stamp → Value
 seen_by hs v s = held_value (line.At s) hs v
+
+-- the put of that place marked as not live; past the end nothing changes
+abbrev pub withdrawn_at : ℕ → List Held → List Held
+withdrawn_at n [] = []
+withdrawn_at zero (h ∷ hs) = record { row = h.row; live = false } ∷ hs
+withdrawn_at (suc n) (h ∷ hs) = h ∷ withdrawn_at n hs
+
+-- the read's stamp isn't after that of the put of that place
+abbrev pub CannotSee : List Held → ℕ → ReadRow → Type 0
+CannotSee hs n q = (d : Held) → n < length hs → stamp_lt (slice_index_or hs n d).row.stamp q.stamp ≡ false

@@ -1,10 +1,10 @@
-ghost use Rattle.std.specs.Prelude.{◌≡◌, ◌+◌, ◌≤◌, ◌∷◌, [], ◌++◌, false, length, map, take, drop, vec_len, vec_capacity, IfOk, OnOk, OnErr};
+ghost use Rattle.std.specs.Prelude.{◌≡◌, ◌+◌, ◌≤◌, ◌==◌, if◌then◌else◌, None, Some, ◌∷◌, [], ◌++◌, false, length, map, take, drop, vec_len, vec_capacity, IfOk, OnOk, OnErr};
 ghost use Rattle.std.specs.List.{All};
 ghost use Rattle.std.specs.Option.{option_to_list};
 ghost use Rattle.pm_base.specs.Stamps.{is_below, stamp_lt};
-ghost use Rattle.pm_periods.specs.Records.{HaveTurns, after_cut, after_put, after_watch, changed_of, cut_row, empty_record, first_read, fresh_read, gives_of_cut, gives_of_put, gives_of_watch, kept_of, record_value, trimmed, with_parts};
+ghost use Rattle.pm_periods.specs.Records.{HaveTurns, after_cut, after_put, after_watch, changed_of, cut_row, empty_record, first_read, fresh_read, gives_of_cut, gives_of_put, gives_of_watch, kept_of, last_give, record_value, trimmed, with_parts};
 ghost use Rattle.pm_periods.specs.Rows.{IsInOrder, read_key};
-ghost use Rattle.pm_periods.specs.Walks.{held_key, seen_by};
+ghost use Rattle.pm_periods.specs.Walks.{CannotSee, held_key, seen_by, withdrawn_at};
 
 use crate::held::{Held, give, hit_in, refresh, value_at_line};
 use crate::rows::{RowKey, add, has, number_place, place};
@@ -86,15 +86,10 @@ impl VarRecord {
             return Ok(List::new(alloc));
         }
         let named = number_place(self.puts.as_slice(), num);
-        let mut after = self.reads.len();
-        if named < self.puts.len() {
-            after = reads_up_to(self.reads.as_slice(), self.puts[named].row.stamp);
-        }
+        let after = reads_without(self.reads.as_slice(), self.puts.as_slice(), named);
         let mut gives = Vec::with_capacity(alloc, self.reads.len() - after)?;
         add(&mut self.cuts, CutRow { num, stamp })?;
-        if named < self.puts.len() {
-            self.puts[named].live = false;
-        }
+        withdraw(&mut self.puts, named);
         let reads = &mut self.reads;
         refresh_from(
             self.var,
@@ -115,7 +110,6 @@ impl VarRecord {
         stamp: Stamp,
         window: Window,
     ) -> Result<Option<GiveRow>, Memory>
-        requires turns { HaveTurns self.old.parts.reads }
         ensures ok { OnOk result (self.new ≡ with_parts self.old (after_watch (first_read num stamp window) self.old.parts)) }
         ensures gives { IfOk result (λ give. option_to_list give ≡
             gives_of_watch self.old.var (first_read num stamp window) self.old.parts) }
@@ -124,20 +118,10 @@ impl VarRecord {
         if has(self.reads.as_slice(), num) {
             return Ok(None);
         }
-        let hit = hit_in(self.value_at(stamp), &window);
-        let turn = if hit.is_some() { 1 } else { 0 };
-        let row = ReadRow {
-            num,
-            stamp,
-            window,
-            turn,
-            hit,
-        };
+        let value = value_at_line(self.puts.as_slice(), self.base, Line::At(stamp));
+        let row = first_row(num, stamp, window, value);
         add(&mut self.reads, row)?;
-        if turn == 0 {
-            return Ok(None);
-        }
-        Ok(Some(give(self.var, &row)))
+        Ok(first_give(self.var, &row))
     }
 
     /// What a read at this stamp sees. It takes no memory.
@@ -182,6 +166,53 @@ fn reads_up_to(reads: &[ReadRow], stamp: Stamp) -> usize
         seq: u64::MAX,
     };
     place(reads, RowKey { stamp, num })
+}
+
+// How many of the first reads can't see the put of that place; all reads where none stands there.
+fn reads_without(reads: &[ReadRow], puts: &[Held], at: usize) -> usize
+    requires { IsInOrder read_key reads.now }
+    ensures within { result ≤ length reads.now }
+    ensures before { All (CannotSee puts.now at) (take result reads.now) }
+{
+    if at < puts.len() {
+        return reads_up_to(reads, puts[at].row.stamp);
+    }
+    reads.len()
+}
+
+// The put of that place is live no more.
+fn withdraw(puts: &mut Vec<Held>, at: usize)
+    ensures { puts.new.items ≡ withdrawn_at at puts.old.items }
+{
+    if at < puts.len() {
+        puts[at].live = false;
+    }
+}
+
+// A new read that sees that value.
+fn first_row(num: Num, stamp: Stamp, window: Window, value: Value) -> ReadRow
+    ensures { result ≡ fresh_read (λ _. value) (first_read num stamp window) }
+{
+    let hit = hit_in(value, &window);
+    let turn = if hit.is_some() { 1 } else { 0 };
+    ReadRow {
+        num,
+        stamp,
+        window,
+        turn,
+        hit,
+    }
+}
+
+// The hit that a new read was given, if it was given one.
+fn first_give(var: u32, row: &ReadRow) -> Option<GiveRow>
+    ensures { result ≡ (if row.now.turn == 0 then None else Some (last_give var row.now)) }
+{
+    if row.turn == 0 {
+        None
+    } else {
+        Some(give(var, row))
+    }
 }
 
 // Refreshes the reads from that place on.
