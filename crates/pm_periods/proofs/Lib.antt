@@ -5,3 +5,4 @@ pub mod Hits
 pub mod Walks
 pub mod Looks
 pub mod Receipts
+pub mod Trimming

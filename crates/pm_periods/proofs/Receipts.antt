@@ -94,7 +94,7 @@ module _ (base : Value) (hs : List Held) (cuts : List CutRow) (reads : List Read
 pub value_without : (p : PutRow) (r : Parts) (l : Line) → is_seen r.cuts l p ≡ false → value_below (with_put p r) l ≡ value_below r l
 value_without p r l e = ap (λ z. value_after z r.base) (filter_add_row_out put_key (is_seen r.cuts l) p r.puts e)
 
-and_false : (a b : Bool) → b ≡ false → (a && b) ≡ false
+pub and_false : (a b : Bool) → b ≡ false → (a && b) ≡ false
 and_false true b e = e
 and_false false b e = refl
 

@@ -46,7 +46,7 @@ later_all h (k ∷ hs) a = (up_to-stamp (held_key h) (held_key k) a.0, later_all
 abbrev taken : Bool → Held → Value → Value
 taken b h v = cond b (applied h.row.change v) v
 
-both_true : (b c : Bool) → c ≡ true → (b && c) ≡ b
+pub both_true : (b c : Bool) → c ≡ true → (b && c) ≡ b
 both_true true c e = e
 both_true false c e = refl
 

@@ -1,8 +1,10 @@
 // The values of a record over time.
-ghost use Rattle.std.specs.Prelude.{◌≡◌, IfOk};
+ghost use Rattle.std.specs.Prelude.{◌≡◌, ◌++◌, IfOk, OnOk};
 ghost use Rattle.pm_periods.specs.Periods.{is_after, periods_from};
+ghost use Rattle.pm_periods.specs.Walks.{ended, next_start, step};
 
 use crate::VarRecord;
+use crate::held::Held;
 use pm_base::{Interval, Line, List, Memory, Period, Stamp, Value};
 use std::alloc::Global;
 
@@ -13,18 +15,44 @@ impl VarRecord {
         ensures { IfOk result (λ periods. periods ≡ periods_from self.now.parts from) }
     {
         let mut periods = List::new(alloc);
-        let mut start = from;
-        let mut value = self.base;
+        let mut reached = Reached {
+            from,
+            value: self.base,
+        };
         for h in &self.puts {
-            if h.live && is_after(start, h.row.stamp) {
-                periods.push(period(start, Some(h.row.stamp), value))?;
-                start = Some(h.row.stamp);
-            }
-            value = h.apply(value);
+            reached = pass(&mut periods, reached, h)?;
         }
-        periods.push(period(start, None, value))?;
+        periods.push(period(reached.from, None, reached.value))?;
         Ok(periods)
     }
+}
+
+// The start of the period that isn't ended yet, and the value there.
+#[derive(Clone, Copy, Debug, PartialEq, Eq)]
+struct Reached {
+    from: Option<Stamp>,
+    value: Value,
+}
+
+// Past a put, which ends a period where it is live and stands after the start.
+fn pass(periods: &mut List<Period>, reached: Reached, h: &Held) -> Result<Reached, Memory>
+    ensures next { IfOk result (λ next. next ≡
+        record { from = next_start reached.from h.now; value = step h.now reached.value }) }
+    ensures ended { OnOk result (periods.new ≡ periods.old ++ ended reached.from reached.value h.now) }
+{
+    let value = h.apply(reached.value);
+    if !h.live || !is_after(reached.from, h.row.stamp) {
+        return Ok(Reached {
+            from: reached.from,
+            value,
+        });
+    }
+    let stamp = h.row.stamp;
+    periods.push(period(reached.from, Some(stamp), reached.value))?;
+    Ok(Reached {
+        from: Some(stamp),
+        value,
+    })
 }
 
 fn is_after(from: Option<Stamp>, s: Stamp) -> bool

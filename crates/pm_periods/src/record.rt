@@ -1,10 +1,10 @@
-ghost use Rattle.std.specs.Prelude.{◌≡◌, ◌+◌, ◌≤◌, ◌==◌, if◌then◌else◌, None, Some, ◌∷◌, [], ◌++◌, false, length, map, take, drop, vec_len, vec_capacity, IfOk, OnOk, OnErr};
+ghost use Rattle.std.specs.Prelude.{◌≡◌, ◌+◌, ◌≤◌, ◌==◌, if◌then◌else◌, None, Some, ◌∷◌, [], ◌++◌, false, filter, length, map, take, drop, vec_len, vec_capacity, IfOk, OnOk, OnErr};
 ghost use Rattle.std.specs.List.{All};
 ghost use Rattle.std.specs.Option.{option_to_list};
 ghost use Rattle.pm_base.specs.Stamps.{is_below, stamp_lt};
-ghost use Rattle.pm_periods.specs.Records.{HaveTurns, after_cut, after_put, after_watch, changed_of, cut_row, empty_record, first_read, fresh_read, gives_of_cut, gives_of_put, gives_of_watch, kept_of, last_give, record_value, trimmed, with_parts};
+ghost use Rattle.pm_periods.specs.Records.{HaveTurns, after_cut, after_put, after_watch, changed_of, cut_row, empty_record, first_read, fresh_read, gives_of_cut, gives_of_put, gives_of_watch, kept_of, last_give, read_stays, record_value, trimmed, with_parts};
 ghost use Rattle.pm_periods.specs.Rows.{IsInOrder, read_key};
-ghost use Rattle.pm_periods.specs.Walks.{CannotSee, held_key, seen_by, withdrawn_at};
+ghost use Rattle.pm_periods.specs.Walks.{CannotSee, cut_is_kept, held_key, held_stays, seen_by, withdrawn_at};
 
 use crate::held::{Held, give, hit_in, refresh, value_at_line};
 use crate::rows::{RowKey, add, has, number_place, place};
@@ -136,12 +136,11 @@ impl VarRecord {
         ensures value { self.new ≡ with_parts self.old (trimmed line self.old.parts) }
         ensures keeps { (s : Stamp) → is_below s line ≡ false → record_value self.new.parts s ≡ record_value self.old.parts s }
     {
-        self.base = value_at_line(self.puts.as_slice(), self.base, line);
-        self.puts.retain(|h| !line.is_past(h.row.stamp));
-        let puts = self.puts.as_slice();
-        self.cuts
-            .retain(|c| !line.is_past(c.stamp) || has(puts, c.num));
-        self.reads.retain(|q| !line.is_past(q.stamp));
+        let base = value_at_line(self.puts.as_slice(), self.base, line);
+        self.base = base;
+        keep_puts(&mut self.puts, line);
+        keep_cuts(&mut self.cuts, self.puts.as_slice(), line);
+        keep_reads(&mut self.reads, line);
     }
 
     /// How many puts, cuts and reads are kept, at most `u64::MAX`. It takes no memory.
@@ -234,4 +233,25 @@ fn refresh_from(
     ensures gives { gives.new.items ≡ gives.old.items ++ changed_of var (seen_by puts.now base) (drop after reads.old.items) }
 {
     refresh(var, puts, base, &mut reads[after..], gives);
+}
+
+// Drops the puts below the line.
+fn keep_puts(puts: &mut Vec<Held>, line: Line)
+    ensures { puts.new.items ≡ filter (held_stays line) puts.old.items }
+{
+    puts.retain(|h| !line.is_past(h.row.stamp));
+}
+
+// Drops the cuts below the line that name none of the puts.
+fn keep_cuts(cuts: &mut Vec<CutRow>, puts: &[Held], line: Line)
+    ensures { cuts.new.items ≡ filter (cut_is_kept line puts.now) cuts.old.items }
+{
+    cuts.retain(|c| !line.is_past(c.stamp) || has(puts, c.num));
+}
+
+// Drops the reads below the line.
+fn keep_reads(reads: &mut Vec<ReadRow>, line: Line)
+    ensures { reads.new.items ≡ filter (read_stays line) reads.old.items }
+{
+    reads.retain(|q| !line.is_past(q.stamp));
 }

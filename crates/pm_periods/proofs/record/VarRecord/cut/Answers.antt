@@ -28,22 +28,22 @@ refresh_from-requires-clause-puts c =
 pub invariant_of-self-2 : goal.invariant_of-self-2
 invariant_of-self-2 c =
     let whole = cut_whole c.self.inside c.self.invariant (cut_row c.args.num c.args.stamp) _ c.as_slice.ensures.value _ c.has.ensures c.if-has.false _ c.as_slice-2.ensures.value _ c.number_place-named.ensures
-        _ c.as_slice-3.ensures.value _ c.as_slice-4.ensures.value _ c.reads_without-after.ensures.before _ c.in_ok-add.ensures.ok _ c.withdraw.ensures _ c.as_slice-5.ensures.value _ c.refresh_from.ensures.reads
-        _ _ _ c.in_ok-gives.ensures.items c.refresh_from.ensures.gives c.from_vec.ensures in
+    _ c.as_slice-3.ensures.value _ c.as_slice-4.ensures.value _ c.reads_without-after.ensures.before _ c.in_ok-add.ensures.ok _ c.withdraw.ensures _ c.as_slice-5.ensures.value _ c.refresh_from.ensures.reads
+    _ _ _ c.in_ok-gives.ensures.items c.refresh_from.ensures.gives c.from_vec.ensures in
     record { settled = whole.2; marks = whole.3 }
 
 pub returns-clause-ok : goal.returns-clause-ok
 returns-clause-ok c =
     let row = cut_row c.args.num c.args.stamp in
     let whole = cut_whole c.self.inside c.self.invariant row _ c.as_slice.ensures.value _ c.has.ensures c.if-has.false _ c.as_slice-2.ensures.value _ c.number_place-named.ensures
-        _ c.as_slice-3.ensures.value _ c.as_slice-4.ensures.value _ c.reads_without-after.ensures.before _ c.in_ok-add.ensures.ok _ c.withdraw.ensures _ c.as_slice-5.ensures.value _ c.refresh_from.ensures.reads
-        _ _ _ c.in_ok-gives.ensures.items c.refresh_from.ensures.gives c.from_vec.ensures in
+    _ c.as_slice-3.ensures.value _ c.as_slice-4.ensures.value _ c.reads_without-after.ensures.before _ c.in_ok-add.ensures.ok _ c.withdraw.ensures _ c.as_slice-5.ensures.value _ c.refresh_from.ensures.reads
+    _ _ _ c.in_ok-gives.ensures.items c.refresh_from.ensures.gives c.from_vec.ensures in
     ap (λ z. record { var = c.self.inside.var; parts = z }) whole.0 ∙ ap (λ (z : Record). with_parts z (after_cut row z.parts)) c.self.view_is
 
 pub returns-clause-gives : goal.returns-clause-gives
 returns-clause-gives c =
     let row = cut_row c.args.num c.args.stamp in
     let whole = cut_whole c.self.inside c.self.invariant row _ c.as_slice.ensures.value _ c.has.ensures c.if-has.false _ c.as_slice-2.ensures.value _ c.number_place-named.ensures
-        _ c.as_slice-3.ensures.value _ c.as_slice-4.ensures.value _ c.reads_without-after.ensures.before _ c.in_ok-add.ensures.ok _ c.withdraw.ensures _ c.as_slice-5.ensures.value _ c.refresh_from.ensures.reads
-        _ _ _ c.in_ok-gives.ensures.items c.refresh_from.ensures.gives c.from_vec.ensures in
+    _ c.as_slice-3.ensures.value _ c.as_slice-4.ensures.value _ c.reads_without-after.ensures.before _ c.in_ok-add.ensures.ok _ c.withdraw.ensures _ c.as_slice-5.ensures.value _ c.refresh_from.ensures.reads
+    _ _ _ c.in_ok-gives.ensures.items c.refresh_from.ensures.gives c.from_vec.ensures in
     whole.1 ∙ ap (λ (z : Record). gives_of_cut z.var row z.parts) c.self.view_is
