@@ -6,3 +6,5 @@ pub mod Walks
 pub mod Looks
 pub mod Receipts
 pub mod Trimming
+pub mod Settling
+pub mod Spans

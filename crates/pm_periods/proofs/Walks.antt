@@ -29,7 +29,7 @@ below-higher s (line.At u) line.End e f = absurd cc
 below-higher s line.End l e f = refl
 
 -- past a put that isn't below the line none is
-none_below : (l : Line) (s : Stamp) (hs : List Held) (v : Value) → is_below s l ≡ false → AllByRecursion (λ h. stamp_lt h.row.stamp s ≡ false) hs → held_value l hs v ≡ v
+pub none_below : (l : Line) (s : Stamp) (hs : List Held) (v : Value) → is_below s l ≡ false → AllByRecursion (λ h. stamp_lt h.row.stamp s ≡ false) hs → held_value l hs v ≡ v
 none_below l s [] v e a = refl
 none_below l s (h ∷ hs) v e a = (let f = not_below-later s h.row.stamp l a.0 e in
     let out : (h.live && is_below h.row.stamp l) ≡ false = rw f (neither h.live) in
@@ -39,11 +39,11 @@ none_below l s (h ∷ hs) v e a = (let f = not_below-later s h.row.stamp l a.0 e
     neither true = refl
     neither false = refl
 
-later_all : (h : Held) (hs : List Held) → AllByRecursion (λ k. key_lt (held_key k) (held_key h) ≡ false) hs → AllByRecursion (λ k. stamp_lt k.row.stamp h.row.stamp ≡ false) hs
+pub later_all : (h : Held) (hs : List Held) → AllByRecursion (λ k. key_lt (held_key k) (held_key h) ≡ false) hs → AllByRecursion (λ k. stamp_lt k.row.stamp h.row.stamp ≡ false) hs
 later_all h [] a = tt
 later_all h (k ∷ hs) a = (up_to-stamp (held_key h) (held_key k) a.0, later_all h hs a.1)
 
-abbrev taken : Bool → Held → Value → Value
+abbrev pub taken : Bool → Held → Value → Value
 taken b h v = cond b (applied h.row.change v) v
 
 pub both_true : (b c : Bool) → c ≡ true → (b && c) ≡ b
