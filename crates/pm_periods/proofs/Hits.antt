@@ -1,5 +1,5 @@
 -- Reads and the hits that they are given.
-use Rattle.std.proofs.Common.{◌≡◌, ℕ, Bool, true, false, cond, not, ◌&&◌, ◌||◌, List, [], ◌∷◌, ◌++◌, map, filter, refl, arith, ap, ap₂, sym, ◌∙◌, subst, Option, Some, None}
+use Rattle.std.proofs.Common.{◌≡◌, ◌≢◌, ◌↔◌, IsTrue, ℕ, Bool, true, false, cond, not, ◌&&◌, ◌||◌, List, [], ◌∷◌, ◌++◌, map, filter, refl, arith, ap, ap₂, sym, ◌∙◌, subst, Option, Some, None}
 use Rattle.std.specs.List.{AllByRecursion}
 use Rattle.std.specs.Ordering.{int_eq}
 use Rattle.std.proofs.lemmas.Bool.{and_from, and_parts, or_parts}
@@ -111,3 +111,11 @@ with_hit_in_order sees qs o = map_in_order (with_hit sees) (λ q. refl) qs o
 
 pub with_hit_distinct : (sees : Stamp → Value) (qs : List ReadRow) → AreDistinct read_key qs → AreDistinct read_key (map (with_hit sees) qs)
 with_hit_distinct sees qs d = map_distinct (with_hit sees) (λ q. refl) qs d
+
+-- a read is given a hit exactly where it has another one than it was last given
+pub is_stale-tells : (sees : Stamp → Value) (q : ReadRow) → IsTrue (is_stale sees q) ↔ (hit_by sees q ≢ q.hit)
+is_stale-tells sees q = by (hit_eq (hit_by sees q) q.hit) refl
+  where
+    by : (b : Bool) → hit_eq (hit_by sees q) q.hit ≡ b → IsTrue (not b) ↔ (hit_by sees q ≢ q.hit)
+    by true e = ((λ h. absurd cc), λ h. absurd (h (hit_eq-same (hit_by sees q) q.hit e)))
+    by false e = ((λ h same. (let f = ap (λ z. hit_eq (hit_by sees q) z) (sym same) ∙ hit_eq-self (hit_by sees q) in absurd cc)), λ h. refl)

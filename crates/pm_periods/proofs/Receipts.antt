@@ -342,3 +342,26 @@ module _ (i : Inside) (s : IsSound i) (n : Num) (at : Stamp) (w : Window) (new :
       let one : changed_of i.var (λ _. v) (q0 ∷ []) ≡ changed_of i.var sees (q0 ∷ []) = ap (λ z. changed_of i.var (λ _. z) (q0 ∷ [])) is_v ∙ changed_of-one i.var sees q0 in
       first_hit i.var v n at w give (e ∙ ap (λ (z : ReadRow). cond (z.turn == 0) None (Some (last_give i.var z))) is_row)
       ∙ (one ∙ (ap (map (next_give i.var sees)) (sym (filter_one read_key (is_stale sees) q0 i.reads.items (none_stale sees i.reads.items s.settled.hits))) ∙ ap (λ b. cond b [] (changed_of i.var sees (add_row read_key q0 i.reads.items))) (sym new)))
+
+-- What is received leaves a settled record settled.
+
+pub after_put-settled : (p : PutRow) (r : Parts) → IsSettled r → IsSettled (after_put p r)
+after_put-settled p r s = by (has_num put_key p.num r.puts) refl
+  where
+    by : (b : Bool) → has_num put_key p.num r.puts ≡ b → IsSettled (cond b r (refreshed (with_put p r)))
+    by true e = s
+    by false e = refreshed-settled (with_put p r) (add_row-in_order put_key p r.puts s.puts) (add_row-distinct put_key p r.puts e s.puts_once) s.cuts s.cuts_once s.reads s.reads_once
+
+pub after_cut-settled : (c : CutRow) (r : Parts) → IsSettled r → IsSettled (after_cut c r)
+after_cut-settled c r s = by (has_num cut_key c.num r.cuts) refl
+  where
+    by : (b : Bool) → has_num cut_key c.num r.cuts ≡ b → IsSettled (cond b r (refreshed (with_cut c r)))
+    by true e = s
+    by false e = refreshed-settled (with_cut c r) s.puts s.puts_once (add_row-in_order cut_key c r.cuts s.cuts) (add_row-distinct cut_key c r.cuts e s.cuts_once) s.reads s.reads_once
+
+pub after_watch-settled : (q : ReadRow) (r : Parts) → IsSettled r → IsSettled (after_watch q r)
+after_watch-settled q r s = by (has_num read_key q.num r.reads) refl
+  where
+    by : (b : Bool) → has_num read_key q.num r.reads ≡ b → IsSettled (cond b r (refreshed (with_read q r)))
+    by true e = s
+    by false e = refreshed-settled (with_read q r) s.puts s.puts_once s.cuts s.cuts_once (add_row-in_order read_key q r.reads s.reads) (add_row-distinct read_key q r.reads e s.reads_once)

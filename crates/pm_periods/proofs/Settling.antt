@@ -50,7 +50,7 @@ settle_whole r ps is_ps cuts is_cuts first is_first hs is_hs ys is_ys reads is_r
     let marks : hs ≡ map (marked cuts) (map held_row hs) = is_hs ∙ ap (map (marked cuts)) (sym rows) in
     let o = parts_in_order r in
     let sees : seen_by ys r.base ≡ record_value o =
-        ap (λ z. seen_by z r.base) is_ys ∙ (sym (sees_by r.base hs cuts [] marks) ∙ (λ i. record_value (record { base = r.base; puts = (rows ∙ is_ps) i; cuts = is_cuts i; reads = [] }))) in
+    ap (λ z. seen_by z r.base) is_ys ∙ (sym (sees_by r.base hs cuts [] marks) ∙ (λ i. record_value (record { base = r.base; puts = (rows ∙ is_ps) i; cuts = is_cuts i; reads = [] }))) in
     let all : reads ≡ map (with_hit (record_value o)) o.reads = is_reads ∙ ap₂ (λ x y. map (with_hit x) y) sees is_first in
     ((λ i. record { base = r.base; puts = (rows ∙ is_ps) i; cuts = is_cuts i; reads = all i }), marks)
 

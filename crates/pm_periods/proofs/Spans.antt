@@ -1,10 +1,10 @@
 -- The periods that a walk along the puts ends are the record's.
-use Rattle.std.proofs.Common.{◌≡◌, inl, inr, Bool, true, false, cond, not, ◌&&◌, List, [], ◌∷◌, ◌++◌, map, Option, None, Some, refl, arith, ap, ap₂, sym, ◌∙◌, subst}
+use Rattle.std.proofs.Common.{◌≡◌, inl, inr, Bool, true, false, cond, not, ◌&&◌, List, [], ◌∷◌, ◌++◌, map, filter, Option, None, Some, refl, arith, ap, ap₂, sym, ◌∙◌, subst}
 use Rattle.std.specs.List.{AllByRecursion}
 use Rattle.std.proofs.lemmas.Bool.{and_parts, cases_Bool}
 use Rattle.std.proofs.lemmas.Bool.Decides.{nat_tests}
 use Rattle.pm_base.specs.Changes.{applied}
-use Rattle.pm_base.specs.Stamps.{is_below, stamp_lt}
+use Rattle.pm_base.specs.Stamps.{is_after, is_below, stamp_lt}
 use Rattle.pm_base.specs.declared.rows.CutRow.{CutRow}
 use Rattle.pm_base.specs.declared.rows.Parts.{Parts}
 use Rattle.pm_base.specs.declared.rows.PutRow.{PutRow}
@@ -13,10 +13,10 @@ use Rattle.pm_base.specs.declared.stamp.Line.TheVariants as line
 use Rattle.pm_base.specs.declared.stamp.Stamp.{Stamp}
 use Rattle.pm_base.specs.declared.value.Period.{Period}
 use Rattle.pm_base.specs.declared.value.Value.{Value}
-use Rattle.pm_periods.specs.Periods.{is_after, periods_from, periods_of}
+use Rattle.pm_periods.specs.Periods.{period_holds, period_value, periods_from, periods_of, values_at, value_after_start}
 use Rattle.pm_periods.specs.Inner.{IsSound, parts_of}
 use Rattle.pm_periods.specs.Records.{is_live, record_value, value_below}
-use Rattle.pm_periods.specs.Rows.{IsInOrder}
+use Rattle.pm_periods.specs.Rows.{IsInOrder, put_key}
 use Rattle.pm_periods.specs.Walks.{ended, held_key, held_row, held_value, marked, next_start, spans, step}
 use Rattle.pm_periods.specs.declared.held.Held.{Held}
 use Rattle.pm_periods.specs.declared.record.VarRecord.TheInside.{Inside}
@@ -79,8 +79,51 @@ module _ (r : Parts) where
           ap (λ b. cond b (record { when = record { from = from; until = Some p.stamp }; value = v } ∷ []) [] ++ spans (cond b (Some p.stamp) from) (step (marked cuts p) v) (map (marked cuts) ps)) e
           ∙ (goes e ∙ ap (λ b. cond b (record { when = record { from = from; until = Some p.stamp }; value = record_value r p.stamp } ∷ periods_of r (Some p.stamp) ps) (periods_of r from ps)) (sym told))
 
+  -- each stamp after the start is in one of these periods, which has what a read there sees
+  pub spans_cover : (hs : List Held) (from : Option Stamp) (v : Value) (s : Stamp) → IsInOrder held_key hs → Reached from v hs → values_at s (spans from v hs) ≡ value_after_start r from s
+  spans_cover [] from v s o at = by (is_after from s) refl
+    where
+      by : (b : Bool) → is_after from s ≡ b → map period_value (cond (b && true) (record { when = record { from = from; until = None }; value = v } ∷ []) []) ≡ cond b (record_value r s ∷ []) []
+      by true e = ap (λ z. z ∷ []) (sym (at s e))
+      by false e = refl
+  spans_cover (h ∷ hs) from v s o at = by (h.live && is_after from h.row.stamp) refl
+      (λ e. spans_cover hs (Some h.row.stamp) (step h v) s o.1 (λ t f. on_ended from v h hs at (and_parts h.live (is_after from h.row.stamp) e).0 (and_parts h.live (is_after from h.row.stamp) e).1 t f (up from h.row.stamp t (and_parts h.live (is_after from h.row.stamp) e).1 f)))
+      (λ e. spans_cover hs from (step h v) s o.1 (on_passed from v h hs at e))
+    where
+      ended_one : (a b : Bool) → is_after from s ≡ a → stamp_lt h.row.stamp s ≡ b → is_after from h.row.stamp ≡ true → map period_value (cond (a && not b) (record { when = record { from = from; until = Some h.row.stamp }; value = v } ∷ []) []) ++ cond b (record_value r s ∷ []) [] ≡ cond a (record_value r s ∷ []) []
+      ended_one true true e f g = refl
+      ended_one true false e f g = ap (λ z. z ∷ []) (sym (at s e ∙ none_below (line.At s) h.row.stamp (h ∷ hs) v f (same, later_all h hs o.0)))
+        where
+          same : stamp_lt h.row.stamp h.row.stamp ≡ false
+          same = grind (arith, nat_tests)
+      ended_one false true e f g = absurd (let k = up from h.row.stamp s g f in cc)
+      ended_one false false e f g = refl
+
+      by : (b : Bool) → (h.live && is_after from h.row.stamp) ≡ b
+          → ((h.live && is_after from h.row.stamp) ≡ true → values_at s (spans (Some h.row.stamp) (step h v) hs) ≡ cond (stamp_lt h.row.stamp s) (record_value r s ∷ []) [])
+          → ((h.live && is_after from h.row.stamp) ≡ false → values_at s (spans from (step h v) hs) ≡ value_after_start r from s)
+          → values_at s (cond b (record { when = record { from = from; until = Some h.row.stamp }; value = v } ∷ []) [] ++ spans (cond b (Some h.row.stamp) from) (step h v) hs) ≡ value_after_start r from s
+      by true e ends goes =
+          let p : Period = record { when = record { from = from; until = Some h.row.stamp }; value = v } in
+          let rest = spans (Some h.row.stamp) (step h v) hs in
+          split (period_holds s p) p rest
+          ∙ (ap (λ z. map period_value (cond (period_holds s p) (p ∷ []) []) ++ z) (ends e)
+          ∙ ended_one (is_after from s) (stamp_lt h.row.stamp s) refl refl (and_parts h.live (is_after from h.row.stamp) e).1)
+        where
+          split : (b : Bool) (p : Period) (rest : List Period) → map period_value (cond b (p ∷ filter (period_holds s) rest) (filter (period_holds s) rest)) ≡ map period_value (cond b (p ∷ []) []) ++ values_at s rest
+          split true p rest = refl
+          split false p rest = refl
+      by false e ends goes = goes e
+
 pub periods_whole : (i : Inside) → IsSound i → (from : Option Stamp) (xs : List Held) → xs ≡ i.puts.items → spans from i.base xs ≡ periods_from (parts_of i) from
 periods_whole i s from xs is =
     let ps = map held_row i.puts.items in
     ap (spans from i.base) (is ∙ s.marks)
     ∙ spans_are (parts_of i) i.cuts.items refl ps from i.base (marked-in_order i.cuts.items ps s.settled.puts) (λ t e. sym (held_value-marked (line.At t) i.cuts.items ps i.base)) (sym (held_value-marked line.End i.cuts.items ps i.base))
+
+pub periods_cover : (r : Parts) → IsInOrder put_key r.puts → (from : Option Stamp) (s : Stamp) → values_at s (periods_from r from) ≡ value_after_start r from s
+periods_cover r o from s =
+    let hs = map (marked r.cuts) r.puts in
+    let at : (t : Stamp) → is_after from t ≡ true → record_value r t ≡ held_value (line.At t) hs r.base = λ t e. sym (held_value-marked (line.At t) r.cuts r.puts r.base) in
+    let sorted = marked-in_order r.cuts r.puts o in
+    ap (values_at s) (sym (spans_are r r.cuts refl r.puts from r.base sorted at (sym (held_value-marked line.End r.cuts r.puts r.base)))) ∙ spans_cover r hs from r.base s sorted at

@@ -85,10 +85,11 @@ all_stay l s cuts cuts' (p ∷ ps) a b =
     let again = all_stay l s cuts cuts' ps a.1 b.1 in
     let stays : put_stays l p ≡ true = ap not a.0 in
     let seen : is_seen cuts' (line.At s) p ≡ is_seen cuts (line.At s) p = ap (λ z. z && stamp_lt p.stamp s) (b.0 stays) in
-    let none : is_seen cuts l p ≡ false = and_false (is_live cuts p) (is_below p.stamp l) a.0 in
-    (ap (λ z. filter (is_seen cuts' (line.At s)) (cond z (p ∷ filter (put_stays l) ps) (filter (put_stays l) ps))) stays
-        ∙ ap₂ (λ z y. cond z (p ∷ y) y) seen again.0,
-     ap (λ z. cond z (p ∷ filter (is_seen cuts l) ps) (filter (is_seen cuts l) ps)) none ∙ again.1)
+    let none : is_seen cuts l p ≡ false = and_false (is_live cuts p) (is_below p.stamp l) a.0 in (
+      ap (λ z. filter (is_seen cuts' (line.At s)) (cond z (p ∷ filter (put_stays l) ps) (filter (put_stays l) ps))) stays
+          ∙ ap₂ (λ z y. cond z (p ∷ y) y) seen again.0,
+      ap (λ z. cond z (p ∷ filter (is_seen cuts l) ps) (filter (is_seen cuts l) ps)) none ∙ again.1,
+    )
 
 trim_value : (l : Line) (s : Stamp) (cuts cuts' : List CutRow) (ps : List PutRow) (v : Value) → is_below s l ≡ false → IsInOrder put_key ps → AllByRecursion (λ p. put_stays l p ≡ true → is_live cuts' p ≡ is_live cuts p) ps
     → value_after (filter (is_seen cuts' (line.At s)) (filter (put_stays l) ps)) (value_after (filter (is_seen cuts l) ps) v) ≡ value_after (filter (is_seen cuts (line.At s)) ps) v
@@ -168,5 +169,5 @@ trim_whole i s l v is_v hs' kept ys is_ys cuts' cut reads' read =
     let cuts_are : cuts' ≡ filter (cut_stays l (filter (put_stays l) (map held_row i.puts.items))) i.cuts.items = cut ∙ ap (λ t. filter t i.cuts.items) test in
     let marks : hs' ≡ map (marked i.cuts.items) (filter (put_stays l) (map held_row i.puts.items)) = kept ∙ (ap (filter (held_stays l)) s.marks ∙ filter_marked (put_stays l) i.cuts.items (map held_row i.puts.items)) in
     let alike = marks_alike i.cuts.items (filter (cut_stays l (filter (put_stays l) (map held_row i.puts.items))) i.cuts.items) (filter (put_stays l) (map held_row i.puts.items))
-        (passed (put_stays l) (λ p. is_live (filter (cut_stays l (filter (put_stays l) (map held_row i.puts.items))) i.cuts.items) p ≡ is_live i.cuts.items p) (map held_row i.puts.items) (live_alike l i.cuts.items (map held_row i.puts.items))) in
+    (passed (put_stays l) (λ p. is_live (filter (cut_stays l (filter (put_stays l) (map held_row i.puts.items))) i.cuts.items) p ≡ is_live i.cuts.items p) (map held_row i.puts.items) (live_alike l i.cuts.items (map held_row i.puts.items))) in
     ((λ k. record { base = is_v k; puts = rows k; cuts = cuts_are k; reads = read k }), marks ∙ (alike ∙ ap₂ (λ y z. map (marked y) z) (sym cuts_are) (sym rows)))

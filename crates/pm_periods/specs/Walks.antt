@@ -1,7 +1,7 @@
 -- Puts with the mark whether they are live, and the walk along them.
 use Rattle.std.specs.Prelude.{◌≡◌, ℕ, zero, suc, ◌<◌, ◌&&◌, ◌||◌, ◌++◌, Bool, false, not, Option, Some, None, if◌then◌else◌, List, [], ◌∷◌, length, slice_index_or}
 use Rattle.pm_base.specs.Changes.{applied}
-use Rattle.pm_base.specs.Stamps.{is_below, stamp_lt}
+use Rattle.pm_base.specs.Stamps.{is_after, is_below, stamp_lt}
 use Rattle.pm_base.specs.declared.rows.CutRow.{CutRow}
 use Rattle.pm_base.specs.declared.rows.PutRow.{PutRow}
 use Rattle.pm_base.specs.declared.rows.ReadRow.{ReadRow}
@@ -10,7 +10,6 @@ use Rattle.pm_base.specs.declared.stamp.Line.TheVariants as line
 use Rattle.pm_base.specs.declared.stamp.Stamp.{Stamp}
 use Rattle.pm_base.specs.declared.value.Period.{Period}
 use Rattle.pm_base.specs.declared.value.Value.{Value}
-use Rattle.pm_periods.specs.Periods.{is_after}
 use Rattle.pm_periods.specs.Records.{is_live, put_stays}
 use Rattle.pm_periods.specs.Rows.{has_num, put_key}
 use Rattle.pm_periods.specs.declared.held.Held.{Held}

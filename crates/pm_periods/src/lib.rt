@@ -3,6 +3,7 @@
 #![tactic(auto)]
 
 mod held;
+mod laws;
 mod parts;
 mod periods;
 mod record;
@@ -10,4 +11,8 @@ mod rows;
 #[cfg(test)]
 mod tests;
 
+pub use laws::{
+    periods_cover, receipts_keep_settled, records_are_settled, sample_record, settling_settles,
+    stale_reads_are_told, trimming_keeps_values,
+};
 pub use record::VarRecord;

@@ -1,6 +1,7 @@
 // The values of a record over time.
 ghost use Rattle.std.specs.Prelude.{◌≡◌, ◌++◌, IfOk, OnOk};
-ghost use Rattle.pm_periods.specs.Periods.{is_after, periods_from};
+ghost use Rattle.pm_periods.specs.Periods.{periods_from, value_after_start, values_at};
+ghost use Rattle.pm_base.specs.Stamps.{is_after};
 ghost use Rattle.pm_periods.specs.Walks.{ended, next_start, step};
 
 use crate::VarRecord;
@@ -12,7 +13,8 @@ impl VarRecord {
     /// The values that reads after `from` see, or all reads where there is none, as periods in order. The first begins
     /// at `from`, each ends at the next stamp at which a live put stands, and the last has no end.
     pub fn periods_from(&self, alloc: Global, from: Option<Stamp>) -> Result<List<Period>, Memory>
-        ensures { IfOk result (λ periods. periods ≡ periods_from self.now.parts from) }
+        ensures value { IfOk result (λ periods. periods ≡ periods_from self.now.parts from) }
+        ensures covers { IfOk result (λ periods. (s : Stamp) → values_at s periods ≡ value_after_start self.now.parts from s) }
     {
         let mut periods = List::new(alloc);
         let mut reached = Reached {

@@ -134,7 +134,8 @@ impl VarRecord {
     /// Forgets what is below the line, and keeps what a read at any stamp not below it sees. It takes no memory.
     pub fn trim(&mut self, line: Line)
         ensures value { self.new ≡ with_parts self.old (trimmed line self.old.parts) }
-        ensures keeps { (s : Stamp) → is_below s line ≡ false → record_value self.new.parts s ≡ record_value self.old.parts s }
+        ensures keeps { (s : Stamp) → is_below s line ≡ false →
+            record_value self.new.parts s ≡ record_value self.old.parts s }
     {
         let base = value_at_line(self.puts.as_slice(), self.base, line);
         self.base = base;

@@ -3,6 +3,7 @@ use pm_base::{
     Change, GiveRow, Interval, Line, List, Num, Parts, Period, PutRow, Stamp, Value, Window,
 };
 use std::alloc::Global;
+use std::process::Abort;
 use std::test::Fail;
 
 // What a record is told, with numbers and stamps as pairs of an agent and a count, and of a time and an agent, and
@@ -81,6 +82,16 @@ fn tell(alloc: Global, record: &mut VarRecord, told: &Told) -> Result<List<GiveR
     }
 }
 
+// That the read of this number is given (x,0).
+fn hit(agent: u32, seq: u64, turn: u64, x: i64) -> Given {
+    (agent, seq, turn, Some(pair(x, 0)))
+}
+
+// That it is given no hit.
+fn miss(agent: u32, seq: u64, turn: u64) -> Given {
+    (agent, seq, turn, None)
+}
+
 fn given(give: &GiveRow) -> Given {
     (give.num.agent, give.num.seq, give.turn, give.hit)
 }
@@ -92,104 +103,71 @@ fn told_one_after_another(rt: HostRuntime) -> Result<(), Fail> {
     let whole = Window::whole();
     let mut record = VarRecord::new(alloc, 4, pair(0, 0));
     let none: [Given; 0] = [];
-    let rows: [(Told, &[Given]); 40] = [
+    let rows: [(Told, &[Given]); 52] = [
         (Told::New("the worked record"), &none),
-        (
-            Told::Watch((1, 1), (5, 1), whole),
-            &[(1, 1, 1, Some(pair(0, 0)))],
-        ),
-        (
-            Told::Put((0, 1), (3, 0), set(7)),
-            &[(1, 1, 2, Some(pair(7, 0)))],
-        ),
+        (Told::Watch((1, 1), (5, 1), whole), &[hit(1, 1, 1, 0)]),
+        (Told::Put((0, 1), (3, 0), set(7)), &[hit(1, 1, 2, 7)]),
         (Told::Put((1, 2), (5, 1), set(8)), &none),
-        (Told::Cut((0, 1), (3, 0)), &[(1, 1, 3, Some(pair(0, 0)))]),
+        (Told::Cut((0, 1), (3, 0)), &[hit(1, 1, 3, 0)]),
         (Told::Watch((1, 1), (5, 1), whole), &none),
         (Told::Watch((2, 1), (5, 2), small()), &none),
         (Told::New("writes that add"), &none),
         (Told::Put((0, 1), (1, 0), add(3)), &none),
-        (
-            Told::Watch((5, 1), (9, 5), whole),
-            &[(5, 1, 1, Some(pair(3, 0)))],
-        ),
-        (
-            Told::Put((1, 1), (0, 1), set(10)),
-            &[(5, 1, 2, Some(pair(13, 0)))],
-        ),
-        (Told::Cut((0, 1), (1, 0)), &[(5, 1, 3, Some(pair(10, 0)))]),
+        (Told::Watch((5, 1), (9, 5), whole), &[hit(5, 1, 1, 3)]),
+        (Told::Put((1, 1), (0, 1), set(10)), &[hit(5, 1, 2, 13)]),
+        (Told::Cut((0, 1), (1, 0)), &[hit(5, 1, 3, 10)]),
         (Told::New("received twice"), &none),
-        (
-            Told::Watch((2, 1), (7, 2), whole),
-            &[(2, 1, 1, Some(pair(0, 0)))],
-        ),
-        (
-            Told::Put((0, 1), (3, 0), add(4)),
-            &[(2, 1, 2, Some(pair(4, 0)))],
-        ),
+        (Told::Watch((2, 1), (7, 2), whole), &[hit(2, 1, 1, 0)]),
+        (Told::Put((0, 1), (3, 0), add(4)), &[hit(2, 1, 2, 4)]),
         (Told::Put((0, 1), (3, 0), add(4)), &none),
-        (Told::Cut((0, 1), (3, 0)), &[(2, 1, 3, Some(pair(0, 0)))]),
+        (Told::Cut((0, 1), (3, 0)), &[hit(2, 1, 3, 0)]),
         (Told::Cut((0, 1), (3, 0)), &none),
         (Told::Put((0, 1), (3, 0), add(4)), &none),
         (Told::New("a withdrawal before its write"), &none),
-        (
-            Told::Watch((2, 1), (7, 2), whole),
-            &[(2, 1, 1, Some(pair(0, 0)))],
-        ),
+        (Told::Watch((2, 1), (7, 2), whole), &[hit(2, 1, 1, 0)]),
         (Told::Cut((0, 1), (3, 0)), &none),
         (Told::Put((0, 1), (3, 0), set(9)), &none),
         (Told::New("two writes of one stamp, the later first"), &none),
+        (Told::Watch((0, 5), (3, 0), whole), &[hit(0, 5, 1, 0)]),
+        (Told::Watch((0, 6), (3, 1), whole), &[hit(0, 6, 1, 0)]),
+        (Told::Put((0, 8), (3, 0), add(1)), &[hit(0, 6, 2, 1)]),
+        (Told::Put((0, 7), (3, 0), set(5)), &[hit(0, 6, 3, 6)]),
         (
-            Told::Watch((0, 5), (3, 0), whole),
-            &[(0, 5, 1, Some(pair(0, 0)))],
-        ),
-        (
-            Told::Watch((0, 6), (3, 1), whole),
-            &[(0, 6, 1, Some(pair(0, 0)))],
-        ),
-        (
-            Told::Put((0, 8), (3, 0), add(1)),
-            &[(0, 6, 2, Some(pair(1, 0)))],
-        ),
-        (
-            Told::Put((0, 7), (3, 0), set(5)),
-            &[(0, 6, 3, Some(pair(6, 0)))],
-        ),
-        (
-            Told::New("out of the window and back, in order of the reads"),
+            Told::New("two writes of one stamp and count, the greater agent's first"),
             &none,
         ),
-        (
-            Told::Watch((3, 1), (8, 3), small()),
-            &[(3, 1, 1, Some(pair(0, 0)))],
-        ),
-        (
-            Told::Watch((2, 1), (8, 2), small()),
-            &[(2, 1, 1, Some(pair(0, 0)))],
-        ),
+        (Told::Put((1, 7), (3, 0), set(2)), &none),
+        (Told::Put((0, 7), (3, 0), set(5)), &none),
+        (Told::Watch((2, 1), (4, 2), whole), &[hit(2, 1, 1, 2)]),
+        (Told::New("out of the window, in order of the reads"), &none),
+        (Told::Watch((3, 1), (8, 3), small()), &[hit(3, 1, 1, 0)]),
+        (Told::Watch((2, 1), (8, 2), small()), &[hit(2, 1, 1, 0)]),
         (
             Told::Put((0, 1), (3, 0), set(9)),
-            &[(2, 1, 2, None), (3, 1, 2, None)],
+            &[miss(2, 1, 2), miss(3, 1, 2)],
         ),
-        (
-            Told::Put((1, 1), (8, 2), set(2)),
-            &[(3, 1, 3, Some(pair(2, 0)))],
-        ),
+        (Told::Put((2, 2), (8, 2), set(2)), &[hit(3, 1, 3, 2)]),
         (
             Told::New("a line between a write and its withdrawal"),
             &none,
         ),
         (Told::Put((0, 1), (3, 0), set(9)), &none),
-        (Told::Cut((0, 1), (3, 0)), &none),
         (Told::Trim(Line::At(at((3, 1)))), &none),
+        (Told::Watch((2, 1), (4, 2), whole), &[hit(2, 1, 1, 9)]),
+        (Told::Cut((0, 1), (3, 0)), &none),
+        (Told::Put((0, 1), (3, 0), set(5)), &none),
+        (Told::New("a line at a read and a write, which stay"), &none),
+        (Told::Watch((3, 1), (3, 3), whole), &[hit(3, 1, 1, 0)]),
+        (Told::Put((3, 2), (3, 3), set(1)), &none),
+        (Told::Trim(Line::At(at((3, 3)))), &none),
+        (Told::Put((2, 1), (3, 2), set(6)), &[hit(3, 1, 2, 6)]),
         (
-            Told::Watch((2, 1), (4, 2), whole),
-            &[(2, 1, 1, Some(pair(0, 0)))],
+            Told::New("a withdrawal at another stamp than its write"),
+            &none,
         ),
-        (
-            Told::Put((0, 1), (3, 0), set(9)),
-            &[(2, 1, 2, Some(pair(9, 0)))],
-        ),
-        (Told::New("a withdrawal that names another stamp"), &none),
+        (Told::Put((0, 1), (3, 0), set(9)), &none),
+        (Told::Watch((2, 1), (4, 2), whole), &[hit(2, 1, 1, 9)]),
+        (Told::Cut((0, 1), (8, 0)), &[hit(2, 1, 2, 0)]),
     ];
     let mut name = "";
     for (told, want) in &rows {
@@ -203,5 +181,136 @@ fn told_one_after_another(rt: HostRuntime) -> Result<(), Fail> {
             assert_eq!(rt; given(give), *want, "{name}");
         }
     }
+    Ok(())
+}
+
+fn put(n: (u32, u64), s: (u64, u32), change: Change) -> PutRow {
+    PutRow {
+        num: num(n),
+        stamp: at(s),
+        change,
+    }
+}
+
+// The worked record, up to its withdrawal and its second read.
+fn worked(alloc: Global) -> Result<VarRecord, Fail> {
+    let mut record = VarRecord::new(alloc, 4, pair(0, 0));
+    let rows = [
+        Told::Watch((1, 1), (5, 1), Window::whole()),
+        Told::Put((0, 1), (3, 0), set(7)),
+        Told::Put((1, 2), (5, 1), set(8)),
+        Told::Cut((0, 1), (3, 0)),
+        Told::Watch((2, 1), (5, 2), small()),
+    ];
+    for told in &rows {
+        tell(alloc, &mut record, told)?;
+    }
+    Ok(record)
+}
+
+fn check_same(rt: &impl Abort, alloc: Global, a: &VarRecord, b: &VarRecord) -> Result<(), Fail> {
+    let a = a.to_parts(alloc)?;
+    let b = b.to_parts(alloc)?;
+    assert_eq!(rt; a.base, b.base);
+    assert_eq!(rt; a.puts.as_slice(), b.puts.as_slice());
+    assert_eq!(rt; a.cuts.as_slice(), b.cuts.as_slice());
+    assert_eq!(rt; a.reads.as_slice(), b.reads.as_slice());
+    Ok(())
+}
+
+fn period(from: Option<(u64, u32)>, until: Option<(u64, u32)>, x: i64) -> Period {
+    Period {
+        when: Interval {
+            from: from.map(at),
+            until: until.map(at),
+        },
+        value: pair(x, 0),
+    }
+}
+
+#[test]
+fn worked_record_seen_and_trimmed(rt: HostRuntime) -> Result<(), Fail> {
+    let alloc = rt.alloc();
+    let mut record = worked(alloc)?;
+    assert_eq!(rt; record.value_at(at((6, 0))), pair(8, 0));
+    assert_eq!(rt; record.kept(), 5);
+    let periods = record.periods_from(alloc, Some(at((4, 0))))?;
+    let want = [
+        period(Some((4, 0)), Some((5, 1)), 0),
+        period(Some((5, 1)), None, 8),
+    ];
+    assert_eq!(rt; periods.as_slice(), want.as_slice());
+    let again = VarRecord::from_parts(alloc, 4, &record.to_parts(alloc)?)?;
+    check_same(&rt, alloc, &again, &record)?;
+    record.trim(Line::At(at((6, 0))));
+    assert_eq!(rt; record.kept(), 0);
+    assert_eq!(rt; record.to_parts(alloc)?.base, pair(8, 0));
+    let again = VarRecord::from_parts(alloc, 4, &record.to_parts(alloc)?)?;
+    check_same(&rt, alloc, &again, &record)
+}
+
+#[test]
+fn two_writes_of_one_stamp_end_one_period(rt: HostRuntime) -> Result<(), Fail> {
+    let alloc = rt.alloc();
+    let mut record = VarRecord::new(alloc, 0, pair(0, 0));
+    tell(alloc, &mut record, &Told::Put((0, 2), (3, 0), add(1)))?;
+    tell(alloc, &mut record, &Told::Put((0, 1), (3, 0), set(5)))?;
+    let periods = record.periods_from(alloc, None)?;
+    let want = [period(None, Some((3, 0)), 0), period(Some((3, 0)), None, 6)];
+    assert_eq!(rt; periods.as_slice(), want.as_slice());
+    Ok(())
+}
+
+#[test]
+fn thousand_periods(rt: HostRuntime) -> Result<(), Fail> {
+    let alloc = rt.alloc();
+    let mut record = VarRecord::new(alloc, 0, pair(0, 0));
+    for k in 0u32..1000 {
+        let n = k as u64;
+        let gives = tell(
+            alloc,
+            &mut record,
+            &Told::Put((0, n), (2 * n, 0), set(k as i64)),
+        )?;
+        assert_eq!(rt; gives.len(), 0);
+        let watch = Told::Watch((1, n), (2 * n + 1, 1), Window::whole());
+        let gives = tell(alloc, &mut record, &watch)?;
+        assert_eq!(rt; gives.len(), 1);
+        for give in gives.as_slice() {
+            assert_eq!(rt; given(give), hit(1, n, 1, k as i64));
+        }
+    }
+    let gives = tell(alloc, &mut record, &Told::Cut((0, 500), (1000, 0)))?;
+    assert_eq!(rt; gives.len(), 1);
+    for give in gives.as_slice() {
+        assert_eq!(rt; given(give), hit(1, 500, 2, 499));
+    }
+    Ok(())
+}
+
+// The worked record's parts without its cut, with puts out of order and one number twice.
+fn disordered(alloc: Global) -> Result<Parts, Fail> {
+    let mut parts = worked(alloc)?.to_parts(alloc)?;
+    parts.cuts.clear();
+    parts.puts.clear();
+    parts.puts.push(put((0, 2), (9, 0), set(3)))?;
+    parts.puts.push(put((0, 1), (4, 0), set(2)))?;
+    parts.puts.push(put((0, 1), (2, 0), set(1)))?;
+    Ok(parts)
+}
+
+#[test]
+fn disordered_parts_settle(rt: HostRuntime) -> Result<(), Fail> {
+    let alloc = rt.alloc();
+    let record = VarRecord::from_parts(alloc, 4, &disordered(alloc)?)?;
+    let parts = record.to_parts(alloc)?;
+    let puts = [put((0, 1), (2, 0), set(1)), put((0, 2), (9, 0), set(3))];
+    assert_eq!(rt; parts.puts.as_slice(), puts.as_slice());
+    let turns = [3, 0];
+    for (read, turn) in parts.reads.as_slice().iter().zip(turns.iter()) {
+        assert_eq!(rt; read.turn, *turn);
+        assert_eq!(rt; read.hit, Some(pair(1, 0)));
+    }
+    assert_eq!(rt; parts.reads.len(), 2);
     Ok(())
 }

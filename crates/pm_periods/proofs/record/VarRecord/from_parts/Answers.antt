@@ -23,7 +23,7 @@ invariant_of-result c =
     let many = ap length c.set_hits.ensures ∙ (length-map c.as_mut_slice.result.now (with_hit (seen_by c.as_slice-6.result.now r.base)) ∙ c.as_mut_slice.ensures.len) in
     let reads = with_items_is c.in_ok-reads.reads c.set_hits.new.reads many ∙ (c.set_hits.ensures ∙ ap (map (with_hit (seen_by c.as_slice-6.result.now r.base))) c.as_mut_slice.ensures.value) in
     let whole = settle_whole r _ (c.in_ok-puts.ensures ∙ ap (rows_in_order put_key) c.as_slice.ensures) _ (c.in_ok-cuts.ensures ∙ ap (rows_in_order cut_key) c.as_slice-2.ensures) _ (c.in_ok-reads.ensures ∙ ap (rows_in_order read_key) c.as_slice-3.ensures)
-        _ (c.in_ok-puts-2.ensures ∙ ap₂ (λ x y. map (marked x) y) c.as_slice-5.ensures.value c.as_slice-4.ensures.value) _ c.as_slice-6.ensures.value _ reads in
+    _ (c.in_ok-puts-2.ensures ∙ ap₂ (λ x y. map (marked x) y) c.as_slice-5.ensures.value c.as_slice-4.ensures.value) _ c.as_slice-6.ensures.value _ reads in
     record { settled = subst IsSettled (sym whole.0) (settled-settled r); marks = whole.1 }
 
 pub returns : goal.returns
@@ -32,5 +32,5 @@ returns c =
     let many = ap length c.set_hits.ensures ∙ (length-map c.as_mut_slice.result.now (with_hit (seen_by c.as_slice-6.result.now r.base)) ∙ c.as_mut_slice.ensures.len) in
     let reads = with_items_is c.in_ok-reads.reads c.set_hits.new.reads many ∙ (c.set_hits.ensures ∙ ap (map (with_hit (seen_by c.as_slice-6.result.now r.base))) c.as_mut_slice.ensures.value) in
     let whole = settle_whole r _ (c.in_ok-puts.ensures ∙ ap (rows_in_order put_key) c.as_slice.ensures) _ (c.in_ok-cuts.ensures ∙ ap (rows_in_order cut_key) c.as_slice-2.ensures) _ (c.in_ok-reads.ensures ∙ ap (rows_in_order read_key) c.as_slice-3.ensures)
-        _ (c.in_ok-puts-2.ensures ∙ ap₂ (λ x y. map (marked x) y) c.as_slice-5.ensures.value c.as_slice-4.ensures.value) _ c.as_slice-6.ensures.value _ reads in
+    _ (c.in_ok-puts-2.ensures ∙ ap₂ (λ x y. map (marked x) y) c.as_slice-5.ensures.value c.as_slice-4.ensures.value) _ c.as_slice-6.ensures.value _ reads in
     ap (λ z. record { var = c.args.var; parts = z }) whole.0
