@@ -46,8 +46,8 @@ pub enum Message {
         num: Num,
         stamp: Stamp,
     },
-    /// Behind the sender the values of a class may stand in this window, at the moments after `from` up to `until`, that
-    /// one included. Where `until` is absent, the moments have no end.
+    /// Behind the sender the values of a class may stand in this window, at the moments after `from` up to `until`,
+    /// that one included. Where `until` is absent, the moments have no end.
     Grow {
         class: u32,
         from: Stamp,

@@ -1,5 +1,5 @@
--- One record, of variable 4, from (0,0) on: it is read, written late, written where the read doesn't see it, one write is
--- withdrawn, and it is trimmed.
+-- One record, of variable 4, from (0,0) on: it is read, written late, written where the read doesn't see it, one write
+-- is withdrawn, and it is trimmed.
 use Rattle.std.specs.Prelude.{◌≡◌, ℕ, List, [], ◌∷◌, pos, Option, Some, None}
 use Rattle.pm_base.specs.Windows.{whole}
 use Rattle.pm_base.specs.declared.rows.CutRow.{CutRow}

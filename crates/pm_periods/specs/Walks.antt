@@ -67,7 +67,10 @@ cut_is_kept l hs c = not (is_below c.stamp l) || has_num held_key c.num hs
 
 -- the period that a put ends, where it is live and stands after the start; the value is the one before it
 abbrev pub ended : Option Stamp → Value → Held → List Period
-ended from v h = if h.live && is_after from h.row.stamp then record { when = record { from = from; until = Some h.row.stamp }; value = v } ∷ [] else []
+ended from v h =
+    if h.live && is_after from h.row.stamp
+    then record { when = record { from = from; until = Some h.row.stamp }; value = v } ∷ []
+    else []
 
 abbrev pub next_start : Option Stamp → Held → Option Stamp
 next_start from h = if h.live && is_after from h.row.stamp then Some h.row.stamp else from

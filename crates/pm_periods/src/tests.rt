@@ -1,6 +1,10 @@
+ghost use Rattle.std.specs.Prelude.{IsTrue};
+ghost use Rattle.pm_periods.specs.Records.{HaveTurns};
+
 use crate::VarRecord;
 use pm_base::{
-    Change, GiveRow, Interval, Line, List, Num, Parts, Period, PutRow, Stamp, Value, Window,
+    Change, GiveRow, Interval, Line, List, Num, Parts, Period, PutRow, ReadRow, Stamp, Value,
+    Window,
 };
 use std::alloc::Global;
 use std::process::Abort;
@@ -14,7 +18,6 @@ enum Told {
     Cut((u32, u64), (u64, u32)),
     Watch((u32, u64), (u64, u32), Window),
     Trim(Line),
-    New(&'static str),
 }
 
 type Given = (u32, u64, u64, Option<Value>);
@@ -62,7 +65,28 @@ fn one(alloc: Global, give: Option<GiveRow>) -> Result<List<GiveRow>, Fail> {
     Ok(gives)
 }
 
+// Whether each of these reads can be given one more hit.
+fn have_turns(reads: &[ReadRow]) -> bool
+    ensures { IsTrue result → HaveTurns reads.now }
+{
+    for q in reads {
+        if q.turn >= 1 << 63 {
+            return false;
+        }
+    }
+    true
+}
+
+fn has_turns(one: &VarRecord) -> bool
+    ensures { IsTrue result → HaveTurns one.now.parts.reads }
+{
+    have_turns(one.reads.as_slice())
+}
+
 fn tell(alloc: Global, record: &mut VarRecord, told: &Told) -> Result<List<GiveRow>, Fail> {
+    if !has_turns(record) {
+        return Err(Fail::new("turns"));
+    }
     match told {
         Told::Put(n, s, change) => Ok(record.put(
             alloc,
@@ -78,7 +102,6 @@ fn tell(alloc: Global, record: &mut VarRecord, told: &Told) -> Result<List<GiveR
             record.trim(*line);
             Ok(List::new(alloc))
         }
-        Told::New(_) => Ok(List::new(alloc)),
     }
 }
 
@@ -96,92 +119,200 @@ fn given(give: &GiveRow) -> Given {
     (give.num.agent, give.num.seq, give.turn, give.hit)
 }
 
-// What a new record of variable 4, at (0,0), is told one after another, each with the hits that it must give.
-#[test]
-fn told_one_after_another(rt: HostRuntime) -> Result<(), Fail> {
-    let alloc = rt.alloc();
-    let whole = Window::whole();
+// What a row of a table must give: at most two hits.
+type Wants = (Option<Given>, Option<Given>);
+
+// Tells a new record of variable 4, at (0,0), these rows one after another; each must give its hits.
+fn follows(rt: &impl Abort, alloc: Global, rows: &[(Told, Wants)]) -> Result<(), Fail> {
     let mut record = VarRecord::new(alloc, 4, pair(0, 0));
-    let none: [Given; 0] = [];
-    let rows: [(Told, &[Given]); 52] = [
-        (Told::New("the worked record"), &none),
-        (Told::Watch((1, 1), (5, 1), whole), &[hit(1, 1, 1, 0)]),
-        (Told::Put((0, 1), (3, 0), set(7)), &[hit(1, 1, 2, 7)]),
-        (Told::Put((1, 2), (5, 1), set(8)), &none),
-        (Told::Cut((0, 1), (3, 0)), &[hit(1, 1, 3, 0)]),
-        (Told::Watch((1, 1), (5, 1), whole), &none),
-        (Told::Watch((2, 1), (5, 2), small()), &none),
-        (Told::New("writes that add"), &none),
-        (Told::Put((0, 1), (1, 0), add(3)), &none),
-        (Told::Watch((5, 1), (9, 5), whole), &[hit(5, 1, 1, 3)]),
-        (Told::Put((1, 1), (0, 1), set(10)), &[hit(5, 1, 2, 13)]),
-        (Told::Cut((0, 1), (1, 0)), &[hit(5, 1, 3, 10)]),
-        (Told::New("received twice"), &none),
-        (Told::Watch((2, 1), (7, 2), whole), &[hit(2, 1, 1, 0)]),
-        (Told::Put((0, 1), (3, 0), add(4)), &[hit(2, 1, 2, 4)]),
-        (Told::Put((0, 1), (3, 0), add(4)), &none),
-        (Told::Cut((0, 1), (3, 0)), &[hit(2, 1, 3, 0)]),
-        (Told::Cut((0, 1), (3, 0)), &none),
-        (Told::Put((0, 1), (3, 0), add(4)), &none),
-        (Told::New("a withdrawal before its write"), &none),
-        (Told::Watch((2, 1), (7, 2), whole), &[hit(2, 1, 1, 0)]),
-        (Told::Cut((0, 1), (3, 0)), &none),
-        (Told::Put((0, 1), (3, 0), set(9)), &none),
-        (Told::New("two writes of one stamp, the later first"), &none),
-        (Told::Watch((0, 5), (3, 0), whole), &[hit(0, 5, 1, 0)]),
-        (Told::Watch((0, 6), (3, 1), whole), &[hit(0, 6, 1, 0)]),
-        (Told::Put((0, 8), (3, 0), add(1)), &[hit(0, 6, 2, 1)]),
-        (Told::Put((0, 7), (3, 0), set(5)), &[hit(0, 6, 3, 6)]),
-        (
-            Told::New("two writes of one stamp and count, the greater agent's first"),
-            &none,
-        ),
-        (Told::Put((1, 7), (3, 0), set(2)), &none),
-        (Told::Put((0, 7), (3, 0), set(5)), &none),
-        (Told::Watch((2, 1), (4, 2), whole), &[hit(2, 1, 1, 2)]),
-        (Told::New("out of the window, in order of the reads"), &none),
-        (Told::Watch((3, 1), (8, 3), small()), &[hit(3, 1, 1, 0)]),
-        (Told::Watch((2, 1), (8, 2), small()), &[hit(2, 1, 1, 0)]),
-        (
-            Told::Put((0, 1), (3, 0), set(9)),
-            &[miss(2, 1, 2), miss(3, 1, 2)],
-        ),
-        (Told::Put((2, 2), (8, 2), set(2)), &[hit(3, 1, 3, 2)]),
-        (
-            Told::New("a line between a write and its withdrawal"),
-            &none,
-        ),
-        (Told::Put((0, 1), (3, 0), set(9)), &none),
-        (Told::Trim(Line::At(at((3, 1)))), &none),
-        (Told::Watch((2, 1), (4, 2), whole), &[hit(2, 1, 1, 9)]),
-        (Told::Cut((0, 1), (3, 0)), &none),
-        (Told::Put((0, 1), (3, 0), set(5)), &none),
-        (Told::New("a line at a read and a write, which stay"), &none),
-        (Told::Watch((3, 1), (3, 3), whole), &[hit(3, 1, 1, 0)]),
-        (Told::Put((3, 2), (3, 3), set(1)), &none),
-        (Told::Trim(Line::At(at((3, 3)))), &none),
-        (Told::Put((2, 1), (3, 2), set(6)), &[hit(3, 1, 2, 6)]),
-        (
-            Told::New("a withdrawal at another stamp than its write"),
-            &none,
-        ),
-        (Told::Put((0, 1), (3, 0), set(9)), &none),
-        (Told::Watch((2, 1), (4, 2), whole), &[hit(2, 1, 1, 9)]),
-        (Told::Cut((0, 1), (8, 0)), &[hit(2, 1, 2, 0)]),
-    ];
-    let mut name = "";
-    for (told, want) in &rows {
-        if let Told::New(next) = told {
-            name = next;
-            record = VarRecord::new(alloc, 4, pair(0, 0));
-        }
+    for (told, want) in rows {
         let gives = tell(alloc, &mut record, told)?;
-        assert_eq!(rt; gives.len(), want.len(), "{name}");
-        for (give, want) in gives.as_slice().iter().zip(want.iter()) {
-            assert_eq!(rt; given(give), *want, "{name}");
-        }
+        assert_eq!(rt; gives.get(0).map(given), want.0);
+        assert_eq!(rt; gives.get(1).map(given), want.1);
+        assert_eq!(rt; gives.get(2).map(given), None);
     }
     Ok(())
+}
+
+#[test]
+fn worked_record(rt: HostRuntime) -> Result<(), Fail> {
+    let whole = Window::whole();
+    let rows = [
+        (
+            Told::Watch((1, 1), (5, 1), whole),
+            (Some(hit(1, 1, 1, 0)), None),
+        ),
+        (
+            Told::Put((0, 1), (3, 0), set(7)),
+            (Some(hit(1, 1, 2, 7)), None),
+        ),
+        (Told::Put((1, 2), (5, 1), set(8)), (None, None)),
+        (Told::Cut((0, 1), (3, 0)), (Some(hit(1, 1, 3, 0)), None)),
+        (Told::Watch((1, 1), (5, 1), whole), (None, None)),
+        (Told::Watch((2, 1), (5, 2), small()), (None, None)),
+    ];
+    follows(&rt, rt.alloc(), &rows)
+}
+
+#[test]
+fn writes_that_add(rt: HostRuntime) -> Result<(), Fail> {
+    let whole = Window::whole();
+    let rows = [
+        (Told::Put((0, 1), (1, 0), add(3)), (None, None)),
+        (
+            Told::Watch((5, 1), (9, 5), whole),
+            (Some(hit(5, 1, 1, 3)), None),
+        ),
+        (
+            Told::Put((1, 1), (0, 1), set(10)),
+            (Some(hit(5, 1, 2, 13)), None),
+        ),
+        (Told::Cut((0, 1), (1, 0)), (Some(hit(5, 1, 3, 10)), None)),
+    ];
+    follows(&rt, rt.alloc(), &rows)
+}
+
+#[test]
+fn received_twice(rt: HostRuntime) -> Result<(), Fail> {
+    let whole = Window::whole();
+    let rows = [
+        (
+            Told::Watch((2, 1), (7, 2), whole),
+            (Some(hit(2, 1, 1, 0)), None),
+        ),
+        (
+            Told::Put((0, 1), (3, 0), add(4)),
+            (Some(hit(2, 1, 2, 4)), None),
+        ),
+        (Told::Put((0, 1), (3, 0), add(4)), (None, None)),
+        (Told::Cut((0, 1), (3, 0)), (Some(hit(2, 1, 3, 0)), None)),
+        (Told::Cut((0, 1), (3, 0)), (None, None)),
+        (Told::Put((0, 1), (3, 0), add(4)), (None, None)),
+    ];
+    follows(&rt, rt.alloc(), &rows)
+}
+
+#[test]
+fn withdrawal_before_its_write(rt: HostRuntime) -> Result<(), Fail> {
+    let whole = Window::whole();
+    let rows = [
+        (
+            Told::Watch((2, 1), (7, 2), whole),
+            (Some(hit(2, 1, 1, 0)), None),
+        ),
+        (Told::Cut((0, 1), (3, 0)), (None, None)),
+        (Told::Put((0, 1), (3, 0), set(9)), (None, None)),
+    ];
+    follows(&rt, rt.alloc(), &rows)
+}
+
+#[test]
+fn two_writes_of_one_stamp(rt: HostRuntime) -> Result<(), Fail> {
+    let whole = Window::whole();
+    let rows = [
+        (
+            Told::Watch((0, 5), (3, 0), whole),
+            (Some(hit(0, 5, 1, 0)), None),
+        ),
+        (
+            Told::Watch((0, 6), (3, 1), whole),
+            (Some(hit(0, 6, 1, 0)), None),
+        ),
+        (
+            Told::Put((0, 8), (3, 0), add(1)),
+            (Some(hit(0, 6, 2, 1)), None),
+        ),
+        (
+            Told::Put((0, 7), (3, 0), set(5)),
+            (Some(hit(0, 6, 3, 6)), None),
+        ),
+    ];
+    follows(&rt, rt.alloc(), &rows)
+}
+
+#[test]
+fn greater_agent_is_later(rt: HostRuntime) -> Result<(), Fail> {
+    let whole = Window::whole();
+    let rows = [
+        (Told::Put((1, 7), (3, 0), set(2)), (None, None)),
+        (Told::Put((0, 7), (3, 0), set(5)), (None, None)),
+        (
+            Told::Watch((2, 1), (4, 2), whole),
+            (Some(hit(2, 1, 1, 2)), None),
+        ),
+    ];
+    follows(&rt, rt.alloc(), &rows)
+}
+
+#[test]
+fn out_of_the_window(rt: HostRuntime) -> Result<(), Fail> {
+    let rows = [
+        (
+            Told::Watch((3, 1), (8, 3), small()),
+            (Some(hit(3, 1, 1, 0)), None),
+        ),
+        (
+            Told::Watch((2, 1), (8, 2), small()),
+            (Some(hit(2, 1, 1, 0)), None),
+        ),
+        (
+            Told::Put((0, 1), (3, 0), set(9)),
+            (Some(miss(2, 1, 2)), Some(miss(3, 1, 2))),
+        ),
+        (
+            Told::Put((2, 2), (8, 2), set(2)),
+            (Some(hit(3, 1, 3, 2)), None),
+        ),
+    ];
+    follows(&rt, rt.alloc(), &rows)
+}
+
+#[test]
+fn line_between_a_write_and_its_withdrawal(rt: HostRuntime) -> Result<(), Fail> {
+    let whole = Window::whole();
+    let rows = [
+        (Told::Put((0, 1), (3, 0), set(9)), (None, None)),
+        (Told::Trim(Line::At(at((3, 1)))), (None, None)),
+        (
+            Told::Watch((2, 1), (4, 2), whole),
+            (Some(hit(2, 1, 1, 9)), None),
+        ),
+        (Told::Cut((0, 1), (3, 0)), (None, None)),
+        (Told::Put((0, 1), (3, 0), set(5)), (None, None)),
+    ];
+    follows(&rt, rt.alloc(), &rows)
+}
+
+#[test]
+fn line_at_a_read_and_a_write(rt: HostRuntime) -> Result<(), Fail> {
+    let whole = Window::whole();
+    let rows = [
+        (
+            Told::Watch((3, 1), (3, 3), whole),
+            (Some(hit(3, 1, 1, 0)), None),
+        ),
+        (Told::Put((3, 2), (3, 3), set(1)), (None, None)),
+        (Told::Trim(Line::At(at((3, 3)))), (None, None)),
+        (
+            Told::Put((2, 1), (3, 2), set(6)),
+            (Some(hit(3, 1, 2, 6)), None),
+        ),
+    ];
+    follows(&rt, rt.alloc(), &rows)
+}
+
+#[test]
+fn withdrawal_at_another_stamp(rt: HostRuntime) -> Result<(), Fail> {
+    let whole = Window::whole();
+    let rows = [
+        (Told::Put((0, 1), (3, 0), set(9)), (None, None)),
+        (
+            Told::Watch((2, 1), (4, 2), whole),
+            (Some(hit(2, 1, 1, 9)), None),
+        ),
+        (Told::Cut((0, 1), (8, 0)), (Some(hit(2, 1, 2, 0)), None)),
+    ];
+    follows(&rt, rt.alloc(), &rows)
 }
 
 fn put(n: (u32, u64), s: (u64, u32), change: Change) -> PutRow {
