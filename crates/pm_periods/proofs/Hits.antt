@@ -1,15 +1,15 @@
 -- Reads and the hits that they are given.
-use Rattle.std.proofs.Common.{◌≡◌, ◌≢◌, ◌↔◌, IsTrue, ℕ, Bool, true, false, cond, not, ◌&&◌, ◌||◌, List, [], ◌∷◌, ◌++◌, map, filter, refl, arith, ap, ap₂, sym, ◌∙◌, subst, Option, Some, None}
+use Rattle.std.proofs.Common.{◌≡◌, ◌≢◌, ◌↔◌, ◌+◌, ◌<◌, ◌^◌, length, get_or, take, IsTrue, ℕ, Bool, true, false, cond, not, ◌&&◌, ◌||◌, List, [], ◌∷◌, ◌++◌, map, filter, refl, arith, ap, ap₂, sym, ◌∙◌, subst, Option, Some, None}
 use Rattle.std.specs.List.{AllByRecursion}
 use Rattle.std.specs.Ordering.{int_eq}
 use Rattle.std.proofs.lemmas.Bool.{and_from, and_parts, or_parts}
 use Rattle.std.proofs.lemmas.Bool.Decides.{Decides-int_eq}
-use Rattle.std.proofs.lemmas.List.{map-append}
+use Rattle.std.proofs.lemmas.List.{map-append, take_more}
 use Rattle.std.proofs.lemmas.List.Elements.{filter-append}
 use Rattle.pm_base.specs.declared.rows.ReadRow.{ReadRow}
 use Rattle.pm_base.specs.declared.stamp.Stamp.{Stamp}
 use Rattle.pm_base.specs.declared.value.Value.{Value}
-use Rattle.pm_periods.specs.Records.{changed_of, fresh_read, given_when, hit_by, hit_eq, is_stale, next_give, with_hit}
+use Rattle.pm_periods.specs.Records.{HaveTurns, changed_of, fresh_read, given_when, hit_by, hit_eq, is_stale, next_give, with_hit}
 use Rattle.pm_periods.specs.Rows.{AreDistinct, IsInOrder, has_num, key_lt, num_eq, read_key}
 
 pub hit_eq-self : (h : Option Value) → hit_eq h h ≡ true
@@ -119,3 +119,10 @@ is_stale-tells sees q = by (hit_eq (hit_by sees q) q.hit) refl
     by : (b : Bool) → hit_eq (hit_by sees q) q.hit ≡ b → IsTrue (not b) ↔ (hit_by sees q ≢ q.hit)
     by true e = ((λ h. absurd cc), λ h. absurd (h (hit_eq-same (hit_by sees q) q.hit e)))
     by false e = ((λ h same. (let f = ap (λ z. hit_eq (hit_by sees q) z) (sym same) ∙ hit_eq-self (hit_by sees q) in absurd cc)), λ h. refl)
+
+each_push : {X : Type 0} (P : X → Type 0) (xs : List X) (x : X) → AllByRecursion P xs → P x → AllByRecursion P (xs ++ x ∷ [])
+each_push P [] x a p = (p, tt)
+each_push P (y ∷ ys) x a p = (a.0, each_push P ys x a.1 p)
+
+pub have_more : (qs : List ReadRow) (i : ℕ) (d : ReadRow) → i < length qs → HaveTurns (take i qs) → (get_or qs i d).turn < 2 ^ 63 → HaveTurns (take (i + 1) qs)
+have_more qs i d lt a b = subst HaveTurns (sym (take_more qs i d lt)) (each_push (λ (q : ReadRow). q.turn < 2 ^ 63) (take i qs) (get_or qs i d) a b)

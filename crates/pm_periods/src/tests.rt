@@ -66,6 +66,7 @@ fn one(alloc: Global, give: Option<GiveRow>) -> Result<List<GiveRow>, Fail> {
 }
 
 // Whether each of these reads can be given one more hit.
+#[tactic(auto, using(crate::proofs::Hits::have_more))]
 fn have_turns(reads: &[ReadRow]) -> bool
     ensures { IsTrue result → HaveTurns reads.now }
 {
