@@ -1,5 +1,5 @@
 -- A loop that looks at each read in turn, with the walk along the puts.
-use Rattle.std.proofs.Common.{◌≡◌, ℕ, ◌+◌, ◌<◌, pos, Option, None, List, [], ◌∷◌, ◌++◌, length, get_or, set, take, drop, map, refl, arith, ap, sym, ◌∙◌, subst, append_assoc}
+use Rattle.std.proofs.Common.{◌≡◌, ℕ, ◌+◌, ◌<◌, pos, Option, None, List, [], ◌∷◌, ◌++◌, length, get_or, set, take, drop, map, ap, sym, ◌∙◌, subst, append_assoc}
 use Rattle.std.proofs.lemmas.List.{drop_more, take_more}
 use Rattle.pm_base.specs.declared.rows.GiveRow.{GiveRow}
 use Rattle.pm_base.specs.declared.rows.ReadRow.{ReadRow}
@@ -8,7 +8,7 @@ use Rattle.pm_base.specs.declared.stamp.Stamp.{Stamp}
 use Rattle.pm_base.specs.declared.value.Value.{Value}
 use Rattle.pm_periods.specs.Records.{changed_of, hit_in, with_hit}
 use Rattle.pm_periods.specs.Rows.{IsInOrder, read_key}
-use Rattle.pm_periods.specs.Walks.{Walk, held_key, seen_by, walk}
+use Rattle.pm_periods.specs.Walks.{held_key, seen_by, walk}
 use Rattle.pm_periods.specs.declared.held.Held.{Held}
 use Rattle.pm_periods.proofs.Hits.{changed_of-append, changed_of-one}
 use Rattle.pm_periods.proofs.Ordered.{drop_in_order, written_before, written_on}

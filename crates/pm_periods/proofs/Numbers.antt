@@ -1,12 +1,12 @@
 -- The first row of each number, and the row that a number names.
-use Rattle.std.proofs.Common.{◌≡◌, ℕ, ◌+◌, ◌<◌, ◌≤◌, zero, suc, inl, inr, Bool, true, false, cond, not, ◌||◌, List, [], ◌∷◌, ◌++◌, length, get_or, take, filter, refl, arith, append-nil, ap, ap₂, sym, ◌∙◌, subst}
+use Rattle.std.proofs.Common.{◌≡◌, ℕ, ◌+◌, ◌<◌, suc, inl, inr, Bool, true, false, cond, not, ◌||◌, List, [], ◌∷◌, ◌++◌, length, get_or, take, filter, refl, arith, append-nil, ap, ap₂, sym, ◌∙◌}
 use Rattle.std.specs.List.{AllByRecursion}
-use Rattle.std.proofs.lemmas.Bool.{cases_Bool, cond_both, or_parts}
+use Rattle.std.proofs.lemmas.Bool.{cases_Bool, or_parts}
 use Rattle.std.proofs.lemmas.List.{take_more}
 use Rattle.std.proofs.lemmas.List.Elements.{filter-append}
 use Rattle.pm_base.specs.declared.stamp.Num.{Num}
 use Rattle.pm_periods.specs.Places.{number_place}
-use Rattle.pm_periods.specs.Rows.{AreDistinct, IsInOrder, add_row, add_rows, differs_from, first_rows, has_num, key_lt, num_eq, rows_in_order}
+use Rattle.pm_periods.specs.Rows.{AreDistinct, IsInOrder, add_rows, differs_from, first_rows, has_num, key_lt, num_eq, rows_in_order}
 use Rattle.pm_periods.specs.declared.rows.RowKey.{RowKey}
 use Rattle.pm_periods.proofs.Keys.{num_eq-flip, num_eq-same}
 use Rattle.pm_periods.proofs.Ordered.{add_rows-in_order, each_filter, filter_distinct, filter_in_order}

@@ -1,12 +1,12 @@
 -- What a record is after a put, a cut or a read, by the lists that hold it.
-use Rattle.std.proofs.Common.{◌≡◌, ℕ, ◌+◌, ◌<◌, ◌≤◌, ◌==◌, zero, suc, inl, inr, Bool, true, false, cond, not, ◌||◌, ◌&&◌, Option, None, Some, List, [], ◌∷◌, ◌++◌, length, nat_lt, pos, ◌⊎◌, get_or, set, take, drop, map, filter, refl, arith, append-nil, ap, ap₂, sym, ◌∙◌, subst}
+use Rattle.std.proofs.Common.{◌≡◌, ℕ, ◌<◌, ◌≤◌, ◌==◌, zero, suc, inl, inr, Bool, true, false, cond, not, ◌||◌, ◌&&◌, Option, None, Some, List, [], ◌∷◌, ◌++◌, length, nat_lt, pos, ◌⊎◌, get_or, set, take, drop, map, filter, refl, arith, ap, ap₂, sym, ◌∙◌, subst}
 use Rattle.std.specs.List.{All, AllByRecursion}
 use Rattle.std.specs.Option.{option_to_list}
-use Rattle.std.proofs.lemmas.Bool.{cases_Bool, cond_both, or_parts}
+use Rattle.std.proofs.lemmas.Bool.{or_parts}
 use Rattle.std.proofs.lemmas.Bool.Decides.{nat_tests}
 use Rattle.std.proofs.lemmas.List.{map-append, take-append-drop}
-use Rattle.std.proofs.lemmas.List.Elements.{filter-append, recursion_from_All}
-use Rattle.pm_base.specs.Stamps.{is_below, stamp_lt}
+use Rattle.std.proofs.lemmas.List.Elements.{recursion_from_All}
+use Rattle.pm_base.specs.Stamps.{stamp_lt}
 use Rattle.pm_base.specs.declared.rows.CutRow.{CutRow}
 use Rattle.pm_base.specs.declared.rows.GiveRow.{GiveRow}
 use Rattle.pm_base.specs.declared.rows.Parts.{Parts}
@@ -28,7 +28,7 @@ use Rattle.pm_periods.specs.declared.held.Held.{Held}
 use Rattle.pm_periods.specs.declared.record.VarRecord.TheInside.{Inside}
 use Rattle.pm_periods.specs.declared.rows.RowKey.{RowKey}
 use Rattle.pm_periods.proofs.Hits.{changed_of-append, changed_of-one, fresh_all, fresh_distinct, fresh_in_order, fresh_read-key, fresh_read-same, hits_settled}
-use Rattle.pm_periods.proofs.Keys.{num_eq-flip, num_eq-same, num_eq-self}
+use Rattle.pm_periods.proofs.Keys.{num_eq-flip, num_eq-same}
 use Rattle.pm_periods.proofs.Numbers.{Named, each_apart, only_named}
 use Rattle.pm_periods.proofs.Ordered.{add_row-distinct, add_row-in_order, filter_add_row_out, has_as_place, has_num-add_row}
 use Rattle.pm_periods.proofs.Walks.{held_value-marked, in_order-held}

@@ -1,10 +1,9 @@
 -- Any parts as a record, and a record's parts as the same record.
-use Rattle.std.proofs.Common.{◌≡◌, Bool, true, false, not, List, [], ◌∷◌, map, refl, ap, ap₂, sym, ◌∙◌, subst}
+use Rattle.std.proofs.Common.{◌≡◌, List, [], ◌∷◌, map, refl, ap, ap₂, sym, ◌∙◌, subst}
 use Rattle.pm_base.specs.declared.rows.CutRow.{CutRow}
 use Rattle.pm_base.specs.declared.rows.Parts.{Parts}
 use Rattle.pm_base.specs.declared.rows.PutRow.{PutRow}
 use Rattle.pm_base.specs.declared.rows.ReadRow.{ReadRow}
-use Rattle.pm_base.specs.declared.value.Value.{Value}
 use Rattle.pm_periods.specs.Records.{IsSettled, parts_in_order, record_value, settled, with_hit, with_present_hits}
 use Rattle.pm_periods.specs.Rows.{IsInOrder, cut_key, put_key, read_key, rows_in_order}
 use Rattle.pm_periods.specs.Walks.{held_key, held_row, marked, seen_by}

@@ -1,14 +1,11 @@
 -- The periods that a walk along the puts ends are the record's.
-use Rattle.std.proofs.Common.{◌≡◌, inl, inr, Bool, true, false, cond, not, ◌&&◌, List, [], ◌∷◌, ◌++◌, map, filter, Option, None, Some, refl, arith, ap, ap₂, sym, ◌∙◌, subst}
-use Rattle.std.specs.List.{AllByRecursion}
-use Rattle.std.proofs.lemmas.Bool.{and_parts, cases_Bool}
+use Rattle.std.proofs.Common.{◌≡◌, Bool, true, false, cond, not, ◌&&◌, List, [], ◌∷◌, ◌++◌, map, filter, Option, None, Some, refl, arith, ap, ap₂, sym, ◌∙◌}
+use Rattle.std.proofs.lemmas.Bool.{and_parts}
 use Rattle.std.proofs.lemmas.Bool.Decides.{nat_tests}
-use Rattle.pm_base.specs.Changes.{applied}
-use Rattle.pm_base.specs.Stamps.{is_after, is_below, stamp_lt}
+use Rattle.pm_base.specs.Stamps.{is_after, stamp_lt}
 use Rattle.pm_base.specs.declared.rows.CutRow.{CutRow}
 use Rattle.pm_base.specs.declared.rows.Parts.{Parts}
 use Rattle.pm_base.specs.declared.rows.PutRow.{PutRow}
-use Rattle.pm_base.specs.declared.stamp.Line.{Line}
 use Rattle.pm_base.specs.declared.stamp.Line.TheVariants as line
 use Rattle.pm_base.specs.declared.stamp.Stamp.{Stamp}
 use Rattle.pm_base.specs.declared.value.Period.{Period}
@@ -17,7 +14,7 @@ use Rattle.pm_periods.specs.Periods.{period_holds, period_value, periods_from, p
 use Rattle.pm_periods.specs.Inner.{IsSound, parts_of}
 use Rattle.pm_periods.specs.Records.{is_live, record_value, value_below}
 use Rattle.pm_periods.specs.Rows.{IsInOrder, put_key}
-use Rattle.pm_periods.specs.Walks.{ended, held_key, held_row, held_value, marked, next_start, spans, step}
+use Rattle.pm_periods.specs.Walks.{held_key, held_row, held_value, marked, spans, step}
 use Rattle.pm_periods.specs.declared.held.Held.{Held}
 use Rattle.pm_periods.specs.declared.record.VarRecord.TheInside.{Inside}
 use Rattle.pm_periods.proofs.Settling.{marked-in_order}

@@ -1,7 +1,6 @@
 -- Trimming keeps what is seen at every stamp not below the line.
-use Rattle.std.proofs.Common.{◌≡◌, inl, inr, Bool, true, false, cond, not, ◌||◌, ◌&&◌, List, [], ◌∷◌, map, filter, refl, arith, ap, ap₂, sym, ◌∙◌, subst}
+use Rattle.std.proofs.Common.{◌≡◌, Bool, true, false, cond, not, ◌||◌, ◌&&◌, List, [], ◌∷◌, map, filter, refl, arith, ap, ap₂, sym, ◌∙◌}
 use Rattle.std.specs.List.{AllByRecursion}
-use Rattle.std.proofs.lemmas.Bool.{cases_Bool, cond_both}
 use Rattle.std.proofs.lemmas.Bool.Decides.{nat_tests}
 use Rattle.pm_base.specs.Changes.{applied}
 use Rattle.pm_base.specs.Stamps.{is_below, stamp_lt}
@@ -22,7 +21,7 @@ use Rattle.pm_periods.specs.declared.held.Held.{Held}
 use Rattle.pm_periods.specs.declared.record.VarRecord.TheInside.{Inside}
 use Rattle.pm_periods.proofs.Keys.{num_eq-same, num_eq-self, up_to-stamp}
 use Rattle.pm_periods.proofs.Ordered.{filter_distinct, filter_in_order}
-use Rattle.pm_periods.proofs.Receipts.{and_false, has_held, parts_by, value_by}
+use Rattle.pm_periods.proofs.Receipts.{and_false, has_held, parts_by}
 use Rattle.pm_periods.proofs.Walks.{both_true, not_below-later}
 
 below-before : (p s : Stamp) (l : Line) → is_below p l ≡ true → is_below s l ≡ false → stamp_lt p s ≡ true

@@ -1,5 +1,5 @@
 -- The walk along the puts tells what is seen at its line, and leaves what is to come.
-use Rattle.std.proofs.Common.{◌≡◌, inl, inr, Bool, true, false, cond, not, ◌&&◌, List, [], ◌∷◌, map, filter, refl, arith, ap, sym, ◌∙◌, subst}
+use Rattle.std.proofs.Common.{◌≡◌, inl, inr, Bool, true, false, cond, ◌&&◌, List, [], ◌∷◌, map, filter, refl, arith, ap, sym, ◌∙◌, subst}
 use Rattle.std.specs.List.{AllByRecursion}
 use Rattle.std.proofs.lemmas.Bool.{cases_Bool}
 use Rattle.std.proofs.lemmas.Bool.Decides.{nat_tests}
@@ -12,7 +12,7 @@ use Rattle.pm_base.specs.declared.stamp.Line.{Line}
 use Rattle.pm_base.specs.declared.stamp.Line.TheVariants as line
 use Rattle.pm_base.specs.declared.stamp.Stamp.{Stamp}
 use Rattle.pm_base.specs.declared.value.Value.{Value}
-use Rattle.pm_periods.specs.Records.{is_live, is_seen, value_after}
+use Rattle.pm_periods.specs.Records.{is_seen, value_after}
 use Rattle.pm_periods.specs.Rows.{IsInOrder, key_lt, put_key, read_key}
 use Rattle.pm_periods.specs.Walks.{Walk, held_key, held_row, held_value, marked, seen_by, step, walk}
 use Rattle.pm_periods.specs.declared.held.Held.{Held}

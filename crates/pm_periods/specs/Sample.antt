@@ -1,6 +1,6 @@
 -- One record, of variable 4, from (0,0) on: it is read, written late, written where the read doesn't see it, one write
 -- is withdrawn, and it is trimmed.
-use Rattle.std.specs.Prelude.{◌≡◌, ℕ, List, [], ◌∷◌, pos, Option, Some, None}
+use Rattle.std.specs.Prelude.{◌≡◌, ℕ, List, [], ◌∷◌, pos, Some, None}
 use Rattle.pm_base.specs.Windows.{whole}
 use Rattle.pm_base.specs.declared.rows.CutRow.{CutRow}
 use Rattle.pm_base.specs.declared.rows.GiveRow.{GiveRow}

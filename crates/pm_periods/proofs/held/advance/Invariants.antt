@@ -1,8 +1,5 @@
-use Rattle.std.proofs.Common.{length, ◌-◌, ◌≡◌, ◌+◌, ◌≤◌, ◌<◌, ◌++◌, ◌∷◌, [], ◌^◌, drop, map, vec_len, vec_capacity, ℕ, ◌*◌}
-use Rattle.pm_base.specs.declared.stamp.Line.TheVariants as line
-use Rattle.pm_periods.specs.Records.{HaveTurns, changed_of, fresh_read, hit_eq, hit_in, last_give, with_hit}
-use Rattle.pm_periods.specs.Rows.{IsInOrder, read_key}
-use Rattle.pm_periods.specs.Walks.{held_key, held_value, seen_by, step, walk}
+use Rattle.std.proofs.Common.{length, ◌-◌, ◌≡◌, drop}
+use Rattle.pm_periods.specs.Walks.{walk}
 use Rattle.pm_periods.proofs.held.advance.Given as goal
 
 abbrev pub invariant-loop-at : goal.invariant-loop-at

@@ -1,5 +1,5 @@
-use Rattle.std.proofs.Common.{◌≡◌, subst}
-use Rattle.pm_periods.specs.Records.{IsSettled, Record, settled}
+use Rattle.std.proofs.Common.{subst}
+use Rattle.pm_periods.specs.Records.{IsSettled, Record}
 use Rattle.pm_periods.proofs.Settling.{settled-same}
 use Rattle.pm_periods.proofs.laws.records_are_settled.Goals as goal
 

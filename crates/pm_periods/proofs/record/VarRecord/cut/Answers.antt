@@ -1,10 +1,9 @@
-use Rattle.std.proofs.Common.{◌≡◌, [], cond, ap, sym, ◌∙◌, subst}
+use Rattle.std.proofs.Common.{[], cond, ap, sym, ◌∙◌, subst}
 use Rattle.pm_periods.specs.Inner.{parts_of}
 use Rattle.pm_periods.specs.Records.{Record, after_cut, changed_hits, cut_row, gives_of_cut, refreshed, with_cut, with_parts}
 use Rattle.pm_periods.specs.Rows.{IsInOrder, cut_key, has_num}
 use Rattle.pm_periods.specs.Walks.{held_key}
 use Rattle.pm_periods.proofs.Receipts.{cut_whole, withdrawn-in_order}
-use Rattle.pm_periods.proofs.Walks.{in_order-held}
 use Rattle.pm_periods.proofs.record.VarRecord.cut.Goals as goal
 
 pub returns-then-has-clause-ok : goal.returns-then-has-clause-ok

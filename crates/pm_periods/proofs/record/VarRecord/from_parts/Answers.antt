@@ -1,4 +1,4 @@
-use Rattle.std.proofs.Common.{◌≡◌, length, map, ap, ap₂, sym, ◌∙◌, subst}
+use Rattle.std.proofs.Common.{length, map, ap, ap₂, sym, ◌∙◌, subst}
 use Rattle.std.proofs.lemmas.List.{length-map, with_items_is}
 use Rattle.pm_periods.specs.Records.{IsSettled, with_hit}
 use Rattle.pm_periods.specs.Rows.{IsInOrder, cut_key, put_key, read_key, rows_in_order}

@@ -1,7 +1,7 @@
-use Rattle.std.proofs.Common.{◌≡◌, [], true, map, cond, ap, sym, ◌∙◌, subst}
+use Rattle.std.proofs.Common.{[], cond, ap, sym, ◌∙◌, subst}
 use Rattle.pm_periods.specs.Inner.{parts_of}
 use Rattle.pm_periods.specs.Records.{Record, after_put, changed_hits, gives_of_put, refreshed, with_parts, with_put}
-use Rattle.pm_periods.specs.Rows.{IsInOrder, add_row, has_num}
+use Rattle.pm_periods.specs.Rows.{IsInOrder, has_num}
 use Rattle.pm_periods.specs.Walks.{held_key}
 use Rattle.pm_periods.proofs.Ordered.{add_row-in_order}
 use Rattle.pm_periods.proofs.Receipts.{has_held, put_whole}

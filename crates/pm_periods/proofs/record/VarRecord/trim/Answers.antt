@@ -1,4 +1,4 @@
-use Rattle.std.proofs.Common.{◌≡◌, ap, sym, ◌∙◌, subst}
+use Rattle.std.proofs.Common.{ap, sym, ◌∙◌, subst}
 use Rattle.pm_periods.specs.Inner.{parts_of}
 use Rattle.pm_periods.specs.Records.{IsSettled, Record, record_value, trimmed, with_parts}
 use Rattle.pm_periods.specs.Rows.{IsInOrder}

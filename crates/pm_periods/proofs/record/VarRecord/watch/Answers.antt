@@ -1,4 +1,4 @@
-use Rattle.std.proofs.Common.{◌≡◌, ap, sym, ◌∙◌, subst}
+use Rattle.std.proofs.Common.{ap, sym, ◌∙◌, subst}
 use Rattle.pm_base.specs.declared.stamp.Line.TheVariants as line
 use Rattle.pm_periods.specs.Records.{Record, after_watch, first_read, gives_of_watch, with_parts}
 use Rattle.pm_periods.specs.Rows.{IsInOrder, has_num, read_key}
