@@ -1,0 +1,10 @@
+pub mod Keys
+pub mod Ordered
+pub mod Numbers
+pub mod Hits
+pub mod Walks
+pub mod Looks
+pub mod Receipts
+pub mod Trimming
+pub mod Settling
+pub mod Spans

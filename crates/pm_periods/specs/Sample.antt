@@ -1,0 +1,64 @@
+-- One record, of variable 4, from (0,0) on: it is read, written late, written where the read doesn't see it, one write
+-- is withdrawn, and it is trimmed.
+use Rattle.std.specs.Prelude.{◌≡◌, ℕ, List, [], ◌∷◌, pos, Some, None}
+use Rattle.pm_base.specs.Windows.{whole}
+use Rattle.pm_base.specs.declared.rows.CutRow.{CutRow}
+use Rattle.pm_base.specs.declared.rows.GiveRow.{GiveRow}
+use Rattle.pm_base.specs.declared.rows.Parts.{Parts}
+use Rattle.pm_base.specs.declared.rows.PutRow.{PutRow}
+use Rattle.pm_base.specs.declared.rows.ReadRow.{ReadRow}
+use Rattle.pm_base.specs.declared.stamp.Line.TheVariants as line
+use Rattle.pm_base.specs.declared.stamp.Stamp.{Stamp}
+use Rattle.pm_base.specs.declared.value.Change.TheVariants as change
+use Rattle.pm_base.specs.declared.value.Value.{Value}
+use Rattle.pm_periods.specs.Periods.{periods_from}
+use Rattle.pm_periods.specs.Records.{after_cut, after_put, after_watch, cut_row, first_read, gives_of_cut, gives_of_put, gives_of_watch, record_value, trimmed}
+
+abbrev pub at : ℕ → ℕ → Stamp
+at time agent = record { time = time; agent = agent }
+
+abbrev pub pair : ℕ → Value
+pair x = record { x = pos x; y = pos 0 }
+
+abbrev pub fresh : Parts
+fresh = record { base = pair 0; puts = []; cuts = []; reads = [] }
+
+abbrev pub read : ReadRow
+read = first_read (record { agent = 1; seq = 1 }) (at 5 1) whole
+
+-- the hit that this read is given
+abbrev pub given : ℕ → ℕ → List GiveRow
+given turn x = record { num = read.num; stamp = read.stamp; var = 4; turn = turn; hit = Some (pair x) } ∷ []
+
+abbrev pub late : PutRow
+late = record { num = record { agent = 0; seq = 1 }; stamp = at 3 0; change = change.Set (pair 7) }
+
+abbrev pub unseen : PutRow
+unseen = record { num = record { agent = 1; seq = 2 }; stamp = at 5 1; change = change.Set (pair 8) }
+
+abbrev pub withdrawal : CutRow
+withdrawal = cut_row late.num late.stamp
+
+abbrev pub was_read : Parts
+was_read = after_watch read fresh
+
+abbrev pub was_written : Parts
+was_written = after_put late was_read
+
+abbrev pub was_written_again : Parts
+was_written_again = after_put unseen was_written
+
+abbrev pub was_withdrawn : Parts
+was_withdrawn = after_cut withdrawal was_written_again
+
+pub record SampleRecord : Type 0 where
+  pub reads : gives_of_watch 4 read fresh ≡ given 1 0
+  pub writes : gives_of_put 4 late was_read ≡ given 2 7
+  pub unseen : gives_of_put 4 unseen was_written ≡ []
+  pub withdraws : gives_of_cut 4 withdrawal was_written_again ≡ given 3 0
+  pub known : gives_of_watch 4 read was_withdrawn ≡ []
+  pub value : record_value was_withdrawn (at 6 0) ≡ pair 8
+  pub periods : periods_from was_withdrawn (Some (at 4 0)) ≡
+      record { when = record { from = Some (at 4 0); until = Some (at 5 1) }; value = pair 0 } ∷
+      (record { when = record { from = Some (at 5 1); until = None }; value = pair 8 } ∷ [])
+  pub trims : trimmed (line.At (at 6 0)) was_withdrawn ≡ record { base = pair 8; puts = []; cuts = []; reads = [] }
