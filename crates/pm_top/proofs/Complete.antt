@@ -25,8 +25,6 @@ ok-err p f e = cc
 not-both : (b : List ℕ) (f : ScenarioFault) → IsAccepted b → IsRefused f b → ⊥
 not-both b f a r = ok-err a.plan f (sym a.is ∙ r.no_plan)
 
-
-
 not-long : (b : List ℕ) → length b ≤ 4194304 → IsTooLong b → ⊥
 not-long b short long = omega (arith, short, long)
 
