@@ -1,5 +1,6 @@
 ghost use Rattle.std.specs.Prelude.{None};
 
+use crate::rows::{FORAGER_LINES, FORAGERS, ROWS};
 use pm_io::{Cue, Failed, FreeGate, MemSink, MemSource, Source};
 use pm_top::{plain, top};
 use std::alloc::{AllocError, Global};
@@ -14,16 +15,10 @@ const TWO_LINES: &str = "0 ant [c0=0,0] c0:=1,0\n1 ant [c0=1,0] c0:=2,0\n";
 const TRACE: &str =
     "0 ant [c0=0,0] c0:=1,0\n1 ant [c0=1,0] c0:=2,0\n2 ant [c0=2,0] c0:=3,0\nend 3\n";
 
-/// A scan, which isn't built yet.
-const SCAN: &str =
-    "version = 1\nhorizon = 0\n[[clp]]\nname = \"root\"\n[[class]]\nname = \"cell\"\n[[class.var]]\nname = \"c0\"\nat = \"root\"\n[[agent]]\nname = \"ant\"\nhome = \"root\"\nrule = \"scan a = cell 5 0 0 9\"\n";
-
 /// One byte at each call.
 const BYTES: [Cue; 400] = [Cue::Take(1); 400];
 
 const WORDS: &str = "pdesmas: the words are not understood\n";
-
-const NOT_BUILT: &str = "pdesmas: scenario: this form is not built yet\n";
 
 const READ_FAULT: &str = "pdesmas: the input cannot be read\n";
 
@@ -184,7 +179,7 @@ fn devices_words_and_texts(rt: HostRuntime) -> Result<(), Fail> {
         },
         Case {
             name: "another word",
-            words: &["fly"],
+            words: &["run"],
             status: 1,
             written: "",
             told: WORDS,
@@ -196,22 +191,6 @@ fn devices_words_and_texts(rt: HostRuntime) -> Result<(), Fail> {
             status: 1,
             written: "",
             told: WORDS,
-            ..GOOD
-        },
-        Case {
-            name: "no scenario",
-            text: "version = 1\nhorizon = \n",
-            status: 2,
-            written: "",
-            told: NOT_BUILT,
-            ..GOOD
-        },
-        Case {
-            name: "a scan",
-            text: SCAN,
-            status: 2,
-            written: "",
-            told: NOT_BUILT,
             ..GOOD
         },
     ] {
@@ -240,5 +219,39 @@ fn a_scenario_past_the_limit(rt: HostRuntime) -> Result<(), Fail> {
     assert_eq!(rt; report.status, 2);
     assert!(rt; out.bytes().is_empty());
     assert!(rt; err.bytes() == b"pdesmas: the scenario is longer than 4194304 bytes\n".as_slice());
+    Ok(())
+}
+
+#[test]
+fn scenarios_and_what_they_print(rt: HostRuntime) -> Result<(), Fail> {
+    let alloc = rt.alloc();
+    for (name, mode, text, status, written, told) in ROWS {
+        let words = words_of(alloc, &[mode])?;
+        let bytes = Vec::from_slice(alloc, text.as_bytes())?;
+        let mut input = MemSource::new(bytes, Vec::new(alloc));
+        let mut out = MemSink::new(alloc, Vec::new(alloc));
+        let mut err = MemSink::new(alloc, Vec::new(alloc));
+        let report = plain(alloc, &words, &mut input, &mut out, &mut err);
+        assert_eq!(rt; report.status, *status, "{name}");
+        assert!(rt; out.bytes() == written.as_bytes(), "{name}");
+        assert!(rt; err.bytes() == told.as_bytes(), "{name}");
+    }
+    Ok(())
+}
+
+#[test]
+fn foragers(rt: HostRuntime) -> Result<(), Fail> {
+    let alloc = rt.alloc();
+    let words = words_of(alloc, &["seq"])?;
+    let bytes = Vec::from_slice(alloc, FORAGERS.as_bytes())?;
+    let mut input = MemSource::new(bytes, Vec::new(alloc));
+    let mut out = MemSink::new(alloc, Vec::new(alloc));
+    let mut err = MemSink::new(alloc, Vec::new(alloc));
+    let report = plain(alloc, &words, &mut input, &mut out, &mut err);
+    assert_eq!(rt; report.status, 0);
+    for (number, line) in FORAGER_LINES {
+        let found = out.bytes().split(|b| *b == b'\n').nth(*number);
+        assert!(rt; found == Some(line.as_bytes()), "{number}");
+    }
     Ok(())
 }
