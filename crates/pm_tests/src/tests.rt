@@ -1,6 +1,6 @@
 ghost use Rattle.std.specs.Prelude.{None};
 
-use crate::rows::{FORAGER_LINES, FORAGERS, ROWS};
+use crate::rows::{FORAGER_LINES, FORAGERS, ROWS, WHOLE, WRONG};
 use pm_io::{Cue, Failed, FreeGate, MemSink, MemSource, Source};
 use pm_top::{plain, top};
 use std::alloc::{AllocError, Global};
@@ -252,6 +252,23 @@ fn foragers(rt: HostRuntime) -> Result<(), Fail> {
     for (number, line) in FORAGER_LINES {
         let found = out.bytes().split(|b| *b == b'\n').nth(*number);
         assert!(rt; found == Some(line.as_bytes()), "{number}");
+    }
+    Ok(())
+}
+
+#[test]
+fn values_of_the_wrong_kind(rt: HostRuntime) -> Result<(), Fail> {
+    let alloc = rt.alloc();
+    for (old, new, key) in WRONG {
+        let words = words_of(alloc, &["check"])?;
+        let text = WHOLE.replacen(alloc, old, new, 1)?;
+        let mut input = MemSource::new(Vec::from_slice(alloc, text.as_bytes())?, Vec::new(alloc));
+        let mut out = MemSink::new(alloc, Vec::new(alloc));
+        let mut err = MemSink::new(alloc, Vec::new(alloc));
+        let report = plain(alloc, &words, &mut input, &mut out, &mut err);
+        let told = format!(in alloc; "pdesmas: scenario: {key} is of the wrong kind\n")?;
+        assert_eq!(rt; report.status, 2, "{new}");
+        assert!(rt; err.bytes() == told.as_bytes(), "{key}: {new}");
     }
     Ok(())
 }
