@@ -189,9 +189,17 @@ const TEXTS: &[(&str, &str)] = &[
     ),
 ];
 
+/// Reads a text, none of which is long here.
+fn read_short(alloc: Global, bytes: &[u8]) -> Result<Plan, ScenarioFault> {
+    if bytes.len() > 1_000_000 {
+        return Err(ScenarioFault::Memory);
+    }
+    read(alloc, bytes)
+}
+
 /// What comes of a text.
 fn told(alloc: Global, bytes: &[u8]) -> Result<String, AllocError> {
-    let Err(fault) = read(alloc, bytes) else {
+    let Err(fault) = read_short(alloc, bytes) else {
         return String::from_str(alloc, "a plan");
     };
     match fault {
@@ -294,7 +302,7 @@ fn is_whole(plan: &Plan) -> bool {
 fn the_whole_scenario_is_read(rt: HostRuntime) -> Result<(), Fail> {
     let alloc = rt.alloc();
     let text = changed(alloc, WHOLE.len(), "")?;
-    let plan = read(alloc, text.as_bytes())?;
+    let plan = read_short(alloc, text.as_bytes())?;
     assert!(rt; is_whole(&plan));
     Ok(())
 }
