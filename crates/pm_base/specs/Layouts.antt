@@ -1,5 +1,6 @@
 -- Classes of variables.
-use Rattle.std.specs.Prelude.{◌≡◌, ℕ, suc, ◌+◌, ◌==◌, ◌≤◌, ◌<◌, ◌^◌, nat_lt, ℤ, pos, unsigned_abs, if◌then◌else◌, List, [], ◌∷◌, length, slice_index_or}
+use Rattle.std.specs.Prelude.{◌≡◌, ℕ, suc, ◌+◌, ◌==◌, ◌≤◌, ◌<◌, ◌^◌, nat_lt, ℤ, pos}
+use Rattle.std.specs.Prelude.{unsigned_abs, if◌then◌else◌, List, [], ◌∷◌, length, slice_index_or}
 use Rattle.std.specs.Int.{int_rem_euclid}
 use Rattle.pm_base.specs.declared.layout.ClassRow.{ClassRow}
 use Rattle.pm_base.specs.declared.layout.Layout.{Layout}

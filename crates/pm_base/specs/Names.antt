@@ -1,5 +1,6 @@
 -- What may stand as a name.
-use Rattle.std.specs.Prelude.{ℕ, ◌==◌, ◌&&◌, ◌||◌, List, [], ◌∷◌, Bool, false, nat_le, length, codes}
+use Rattle.std.specs.Prelude.{ℕ, ◌==◌, ◌&&◌, ◌||◌, List, [], ◌∷◌, Bool, false, nat_le, length}
+use Rattle.std.specs.Prelude.{codes}
 use Rattle.std.specs.List.{list_all}
 use Rattle.std.specs.Str.{bytes_eq}
 
@@ -23,7 +24,8 @@ is_name bytes = (nat_le (length bytes) 32 && starts_lower bytes) && list_all is_
 -- the words of the rule language that name no register and no sense
 unfoldable pub is_reserved : List ℕ → Bool
 is_reserved bytes =
-    bytes_eq bytes (codes "reg") || bytes_eq bytes (codes "read") || bytes_eq bytes (codes "scan") || bytes_eq bytes (codes "let") ||
-    bytes_eq bytes (codes "if") || bytes_eq bytes (codes "else") || bytes_eq bytes (codes "end") || bytes_eq bytes (codes "set") ||
-    bytes_eq bytes (codes "wait") || bytes_eq bytes (codes "now") || bytes_eq bytes (codes "me") || bytes_eq bytes (codes "min") ||
+    bytes_eq bytes (codes "reg") || bytes_eq bytes (codes "read") || bytes_eq bytes (codes "scan") ||
+    bytes_eq bytes (codes "let") || bytes_eq bytes (codes "if") || bytes_eq bytes (codes "else") ||
+    bytes_eq bytes (codes "end") || bytes_eq bytes (codes "set") || bytes_eq bytes (codes "wait") ||
+    bytes_eq bytes (codes "now") || bytes_eq bytes (codes "me") || bytes_eq bytes (codes "min") ||
     bytes_eq bytes (codes "max")

@@ -1,5 +1,6 @@
 -- The order of moments, and the lines between them.
-use Rattle.std.specs.Prelude.{◌≡◌, ◌<◌, ◌==◌, ◌&&◌, ◌||◌, Bool, true, false, not, nat_lt, ◌⊎◌, if◌then◌else◌, List, [], ◌∷◌, Option, Some, None, IfSome}
+use Rattle.std.specs.Prelude.{◌≡◌, ◌<◌, ◌==◌, ◌&&◌, ◌||◌, Bool, true, false, not, nat_lt}
+use Rattle.std.specs.Prelude.{◌⊎◌, if◌then◌else◌, List, [], ◌∷◌, Option, Some, None, IfSome}
 use Rattle.std.specs.List.{All, Contains}
 use Rattle.std.specs.declared.cmp.Ordering.{Ordering}
 use Rattle.std.specs.declared.cmp.Ordering.TheVariants.{Less, Equal, Greater}
@@ -23,7 +24,7 @@ ordering_by lt a b = if lt a b then Less else if lt b a then Greater else Equal
 abbrev pub IsBefore : Stamp → Stamp → Type 0
 IsBefore a b = (a.time < b.time) ⊎ ((a.time ≡ b.time) × (a.agent < b.agent))
 
--- its test
+-- the test whether a moment comes before another
 abbrev pub stamp_lt : Stamp → Stamp → Bool
 stamp_lt a b = nat_lt a.time b.time || (a.time == b.time && nat_lt a.agent b.agent)
 
@@ -32,7 +33,7 @@ abbrev pub IsBelow : Stamp → Line → Type 0
 IsBelow s (line.At t) = IsBefore s t
 IsBelow s line.End = Unit {0}
 
--- its test
+-- the test whether a moment is below a line
 abbrev pub is_below : Stamp → Line → Bool
 is_below s (line.At t) = stamp_lt s t
 is_below s line.End = true
@@ -75,10 +76,11 @@ abbrev pub is_until : Option Stamp → Stamp → Bool
 is_until None s = true
 is_until (Some until) s = not (stamp_lt until s)
 
+-- an interval holds a moment: after its begin, and no later than its end
 abbrev pub holds : Interval → Stamp → Bool
 holds when s = is_after when.from s && is_until when.until s
 
--- the same as a fact
+-- a moment is within an interval, as a fact: the begin comes before it, and the end doesn't
 pub record IsWithin (s : Stamp) (when : Interval) : Type 0 where
   pub after : IfSome when.from (λ from. IsBefore from s)
   pub until : IfSome when.until (λ until. IsBefore until s → ⊥)

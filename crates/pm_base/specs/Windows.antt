@@ -1,5 +1,6 @@
 -- Boxes of values.
-use Rattle.std.specs.Prelude.{ℤ, pos, negsuc, ◌^◌, ◌-◌, ◌≤ℤ◌, ◌<ℤ◌, int_le, int_lt, FitsSigned, ◌&&◌, ◌||◌, Bool, ◌⊎◌}
+use Rattle.std.specs.Prelude.{ℤ, pos, negsuc, ◌^◌, ◌-◌, ◌≤ℤ◌, ◌<ℤ◌, int_le, int_lt, FitsSigned}
+use Rattle.std.specs.Prelude.{◌&&◌, ◌||◌, Bool, ◌⊎◌}
 use Rattle.std.specs.Int.{w64, int_min, int_max}
 use Rattle.pm_base.specs.declared.value.Value.{Value}
 use Rattle.pm_base.specs.declared.value.Window.{Window}
@@ -11,10 +12,11 @@ pub record Inside (v : Value) (w : Window) : Type 0 where
   pub low : w.y0 ≤ℤ v.y
   pub high : v.y ≤ℤ w.y1
 
--- its test
+-- a number is between two ends, these included
 abbrev pub between : ℤ → ℤ → ℤ → Bool
 between low z high = int_le low z && int_le z high
 
+-- the test whether a value is inside a window
 abbrev pub inside : Value → Window → Bool
 inside v w = between w.x0 v.x w.x1 && between w.y0 v.y w.y1
 
@@ -22,7 +24,7 @@ inside v w = between w.x0 v.x w.x1 && between w.y0 v.y w.y1
 abbrev pub IsInverted : Window → Type 0
 IsInverted w = (w.x1 <ℤ w.x0) ⊎ (w.y1 <ℤ w.y0)
 
--- its test
+-- the test whether the ends stand the wrong way round
 abbrev pub is_inverted : Window → Bool
 is_inverted w = int_lt w.x1 w.x0 || int_lt w.y1 w.y0
 
@@ -57,9 +59,10 @@ pub record IsLeastBox (a b joined : Window) : Type 0 where
 abbrev pub Meets : Window → Window → Type 0
 Meets a b = (v : Value) × Inside v a × Inside v b
 
--- its test: in each coordinate, the greater of the begins is no greater than the lesser of the ends
+-- in one coordinate, some number is between both pairs of ends: the greater begin is no greater than the lesser end
 unfoldable pub overlap : ℤ → ℤ → ℤ → ℤ → Bool
 overlap a0 a1 b0 b1 = int_le (int_max a0 b0) (int_min a1 b1)
 
+-- the test whether some value is inside both windows: they overlap in each coordinate, ends included
 abbrev pub meets : Window → Window → Bool
 meets a b = overlap a.x0 a.x1 b.x0 b.x1 && overlap a.y0 a.y1 b.y0 b.y1

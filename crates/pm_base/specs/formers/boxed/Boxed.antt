@@ -22,9 +22,11 @@ use Rattle.pm_base.specs.declared.boxed.Boxed.TheView.{view, invariant}
 use Rattle.pm_base.specs.contracts.boxed.Boxed as C
 use Rattle.pm_base.specs.contracts.boxed.Boxed.TheInside as I
 
+-- a box of a value that itself holds values has that value's shape, with the same values in it
 abbrev pub the_former : Former {0} → Former {0}
 the_former g = g
 
+-- a box is as deep as the value in it
 abbrev pub the_weighed : {g : Former {0}} → Weighed g → Weighed (the_former g)
 the_weighed w = w
 
