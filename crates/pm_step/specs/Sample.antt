@@ -14,21 +14,26 @@ use Rattle.pm_step.specs.Expressions.{Sight, sight}
 use Rattle.pm_step.specs.Steps.{step}
 use Rattle.pm_step.specs.declared.Next.TheVariants as next
 
+-- the rule that counts down, as a tree
 abbrev pub sample : Program
 sample = record {
   regs = record { name = 110 ∷ []; start = pos 0 } ∷ [];
   senses = record { name = 97 ∷ []; sense = Read (Var 0) } ∷ [];
-  body = If (Bin op.Less (Part 0 field.X) (Num (pos 1))) (Set (Var 0) (Bin op.Sub (Reg 0) (Num (pos 1))) (Num (negsuc 1)) ∷ []) [] ∷ [];
+  body =
+      If (Bin op.Less (Part 0 field.X) (Num (pos 1)))
+      (Set (Var 0) (Bin op.Sub (Reg 0) (Num (pos 1))) (Num (negsuc 1)) ∷ []) [] ∷ [];
 }
 
 -- one class of one variable, at time 0, agent 0, with n at 0
 abbrev pub sample_sight : List (List Hit) → Sight
-sample_sight answers = sight (record { first = 0; count = 1 } ∷ []) (record { time = 0; agent = 0 }) (pos 0 ∷ []) answers
+sample_sight answers =
+    sight (record { first = 0; count = 1 } ∷ []) (record { time = 0; agent = 0 }) (pos 0 ∷ []) answers
 
 -- without an answer it asks for c0; where c0 is (0,0) it writes (-1,-2)
 pub record SampleSteps : Type 0 where
   pub asks : step sample (sample_sight []) ≡ next.Ask (query.One 0)
-  pub acts : step sample (sample_sight ((record { var = 0; value = record { x = pos 0; y = pos 0 } } ∷ []) ∷ [])) ≡
+  pub acts :
+      step sample (sample_sight ((record { var = 0; value = record { x = pos 0; y = pos 0 } } ∷ []) ∷ [])) ≡
       next.Act (record {
         writes = record { var = 0; change = change.Set (record { x = negsuc 0; y = negsuc 1 }) } ∷ [];
         regs = pos 0 ∷ [];

@@ -1,5 +1,7 @@
 -- The step of a rule: the next query, or what the rule does with the answers.
-use Rattle.std.specs.Prelude.{◌≡◌, ℕ, ◌<◌, ◌≤◌, Bool, true, false, if◌then◌else◌, nat_lt, max, List, [], ◌∷◌, ◌++◌, length, slice_get, Option, Some, None, ℤ, pos, negsuc, set, map}
+use Rattle.std.specs.Prelude.{◌≡◌, ℕ, ◌<◌, ◌≤◌, Bool, true, false, if◌then◌else◌, nat_lt, max}
+use Rattle.std.specs.Prelude.{List, [], ◌∷◌, ◌++◌, length, slice_get, Option, Some, None, ℤ, pos, negsuc}
+use Rattle.std.specs.Prelude.{set, map}
 use Rattle.std.specs.List.{AllPairs, filter}
 use Rattle.pm_base.specs.Layouts.{class_row, member_of}
 use Rattle.pm_base.specs.declared.program.Expr.{Expr}
@@ -40,7 +42,8 @@ query_of s (Read place) = query.One (variable s place)
 query_of s (Scan class x0 x1 y0 y1) =
     query.Class class (record { x0 = value s x0; x1 = value s x1; y0 = value s y0; y1 = value s y1 })
 
--- the writes to lesser variables, this one, and those to greater ones: it stands in place of an earlier one of its variable
+-- the writes to lesser variables, this one, and those to greater ones: it stands in place of an earlier one of its
+-- variable
 unfoldable pub written : List Write → Write → List Write
 written ws w = filter (λ v. nat_lt v.var w.var) ws ++ w ∷ filter (λ v. nat_lt w.var v.var) ws
 
@@ -54,9 +57,10 @@ sight_at s d = record s { regs = d.regs }
 
 -- the deeds after a change of the variable of a place
 abbrev pub with_change : Sight → Place → Change → Deeds → Deeds
-with_change s place c d = record d { writes = written d.writes (record { var = variable (sight_at s d) place; change = c }) }
+with_change s place c d =
+    record d { writes = written d.writes (record { var = variable (sight_at s d) place; change = c }) }
 
--- one after another
+-- the deeds after all of these, one after another
 abbrev pub all_of : List (Deeds → Deeds) → Deeds → Deeds
 all_of [] d = d
 all_of (f ∷ fs) d = all_of fs (f d)
@@ -70,6 +74,7 @@ does_step s (Stmt-F.Set place x y) d = with_change s place (change.Set (pair (si
 does_step s (Stmt-F.Add place x y) d = with_change s place (change.Add (pair (sight_at s d) x y)) d
 does_step s (Stmt-F.Wait e) d = record d { wait = value (sight_at s d) e }
 
+-- the deeds after a statement, from those before it
 abbrev pub does : Sight → Stmt → Deeds → Deeds
 does s = fold-Stmt (Deeds → Deeds) (does_step s)
 
@@ -111,7 +116,8 @@ ForAct P (next.Act act) = P act
 
 -- the step asks exactly while there are fewer answers than senses
 abbrev pub AsksWhileSensesAreLeft : Type 0
-AsksWhileSensesAreLeft = (program : Program) (s : Sight) → is_ask (step program s) ≡ nat_lt (length s.answers) (length program.senses)
+AsksWhileSensesAreLeft =
+    (program : Program) (s : Sight) → is_ask (step program s) ≡ nat_lt (length s.answers) (length program.senses)
 
 -- an agent waits at least 1
 abbrev pub WaitsAtLeastOne : Type 0
