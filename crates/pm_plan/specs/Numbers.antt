@@ -1,5 +1,6 @@
 -- The least number that passes a test, and the numbers of names.
-use Rattle.std.specs.Prelude.{ℕ, zero, suc, ◌+◌, Bool, not, if◌then◌else◌, List, [], ◌∷◌, length, take, get_or, Option, Some, None, is_some}
+use Rattle.std.specs.Prelude.{ℕ, zero, suc, ◌+◌, Bool, not, if◌then◌else◌, List, [], ◌∷◌, length}
+use Rattle.std.specs.Prelude.{take, get_or, Option, Some, None, is_some}
 use Rattle.std.specs.Str.{bytes_eq}
 use Rattle.pm_base.specs.Names.{is_name}
 
@@ -12,6 +13,7 @@ least_from passes i (suc n) = if passes i then Some i else least_from passes (i 
 abbrev pub least : (ℕ → Bool) → ℕ → Option ℕ
 least passes n = least_from passes 0 n
 
+-- where a name stands first among these, the first of them counted as i
 abbrev pub first_from : ℕ → List (List ℕ) → List ℕ → Option ℕ
 first_from i [] name = None
 first_from i (n ∷ ns) name = if bytes_eq name n then Some i else first_from (i + 1) ns name
@@ -20,6 +22,7 @@ first_from i (n ∷ ns) name = if bytes_eq name n then Some i else first_from (i
 unfoldable pub number_of : List (List ℕ) → List ℕ → Option ℕ
 number_of names name = first_from 0 names name
 
+-- the name of that number; no bytes where there is none
 abbrev pub name_at : List (List ℕ) → ℕ → List ℕ
 name_at names i = get_or names i []
 

@@ -1,5 +1,7 @@
 -- The plan of parts, or why there is none.
-use Rattle.std.specs.Prelude.{◌≡◌, ℕ, suc, ◌+◌, ◌^◌, ◌<◌, Bool, true, false, ◌||◌, ◌&&◌, if◌then◌else◌, nat_lt, nat_le, List, [], ◌∷◌, length, take, get_or, map, Option, Some, None, is_none, option_map, unwrap_or, Result, Ok, Err, drop}
+use Rattle.std.specs.Prelude.{◌≡◌, ℕ, suc, ◌+◌, ◌^◌, ◌<◌, Bool, true, false, ◌||◌, ◌&&◌}
+use Rattle.std.specs.Prelude.{if◌then◌else◌, nat_lt, nat_le, List, [], ◌∷◌, length, take, get_or, map}
+use Rattle.std.specs.Prelude.{Option, Some, None, is_none, option_map, unwrap_or, Result, Ok, Err, drop}
 use Rattle.std.specs.List.{flat_map, list_all, list_any}
 use Rattle.pm_base.specs.Fits.{fits}
 use Rattle.pm_base.specs.declared.layout.ClassRow.{ClassRow}
@@ -23,20 +25,26 @@ use Rattle.pm_plan.specs.declared.plan.VarRow.{VarRow}
 abbrev pub clp_of : List (List ℕ) → List ℕ → ℕ
 clp_of names name = unwrap_or (number_of names name) (length names)
 
+-- a communication process with its parent as a number
 abbrev pub clp_row : List (List ℕ) → ClpPart → ClpRow
 clp_row names part = record { name = part.name; parent = option_map (clp_of names) part.parent }
 
+-- a variable with its place as a number
 abbrev pub var_row : List (List ℕ) → VarPart → VarRow
 var_row names part = record { name = part.name; at = clp_of names part.at; value = part.value }
 
+-- an agent with its home as a number
 abbrev pub agent_row : List (List ℕ) → AgentPart → AgentRow
-agent_row names part = record { name = part.name; home = clp_of names part.home; start = part.start; program = part.program }
+agent_row names part =
+    record { name = part.name; home = clp_of names part.home; start = part.start; program = part.program }
 
 -- the classes, the first of them from that variable on
 abbrev pub class_rows : ℕ → List ClassPart → List ClassRow
 class_rows first [] = []
-class_rows first (c ∷ cs) = (record { first = first; count = length c.vars }) ∷ class_rows (first + length c.vars) cs
+class_rows first (c ∷ cs) =
+    (record { first = first; count = length c.vars }) ∷ class_rows (first + length c.vars) cs
 
+-- the variables of all classes, class by class
 abbrev pub all_vars : List ClassPart → List VarPart
 all_vars classes = flat_map (λ c. c.vars) classes
 
@@ -54,6 +62,7 @@ numbered parts =
       agents = map (agent_row names) parts.agents;
     }
 
+-- the parents of these communication processes
 abbrev pub parents : List ClpRow → List (Option ℕ)
 parents clps = map (λ c. c.parent) clps
 
@@ -62,6 +71,7 @@ abbrev pub or_else : Option PlanFault → Option PlanFault → Option PlanFault
 or_else (Some f) later = Some f
 or_else None later = later
 
+-- this refusal where the test holds, else none
 abbrev pub refused_if : Bool → PlanFault → Option PlanFault
 refused_if test f = if test then Some f else None
 
@@ -69,6 +79,7 @@ refused_if test f = if test then Some f else None
 abbrev pub is_past : ℕ → Bool
 is_past time = nat_lt 1000000000000 time
 
+-- the agent starts past the last time
 abbrev pub starts_late : AgentRow → Bool
 starts_late a = is_past a.start
 
@@ -92,7 +103,7 @@ of_names refusal index p =
     (or_else (option_map (refusal kind.Var) (index (map (λ v. v.name) p.vars)))
     (option_map (refusal kind.Agent) (index (map (λ a. a.name) p.agents)))))
 
--- whether the parent is none of that many CLPs
+-- whether there is a parent that is none of that many communication processes
 abbrev pub is_lost : ℕ → Option ℕ → Bool
 is_lost clps None = false
 is_lost clps (Some d) = nat_le clps d
@@ -105,6 +116,7 @@ is_second_root ps c = is_none (parent ps c) && list_any is_none (take c ps)
 abbrev pub is_endless : List (Option ℕ) → ℕ → Bool
 is_endless ps c = nat_lt (suc (length ps)) (length (ups (suc (suc (length ps))) ps (Some c)))
 
+-- a communication process is off the tree: its parent isn't there, or it is a second root, or no root is above it
 abbrev pub is_off_tree : List (Option ℕ) → ℕ → Bool
 is_off_tree ps c = (is_lost (length ps) (parent ps c) || is_second_root ps c) || is_endless ps c
 
@@ -116,6 +128,7 @@ first_off_tree ps = least (is_off_tree ps) (length ps)
 unfoldable pub first_nowhere : ℕ → List ℕ → Option ℕ
 first_nowhere clps places = least (λ i. nat_le clps (get_or places i 0)) (length places)
 
+-- the first variable, or else the first agent, whose communication process is not there
 abbrev pub place_refusal : Plan → Option PlanFault
 place_refusal p =
     or_else (option_map (fault.Place kind.Var) (first_nowhere (length p.clps) (map (λ v. v.at) p.vars)))
@@ -132,8 +145,10 @@ later_refusal p =
 
 -- the first refusal
 unfoldable pub refusal : Plan → Option PlanFault
-refusal p = or_else (count_refusal (length p.clps) (length p.classes) (length p.vars) (length p.agents)) (later_refusal p)
+refusal p =
+    or_else (count_refusal (length p.clps) (length p.classes) (length p.vars) (length p.agents)) (later_refusal p)
 
+-- the plan, or its refusal where it has one
 abbrev pub unless_refused : Option PlanFault → Plan → Result Plan PlanFault
 unless_refused None p = Ok p
 unless_refused (Some f) p = Err f
@@ -156,7 +171,8 @@ pub record IsFew (p : Plan) : Type 0 where
 
 -- whether each agent's rule fits these classes
 abbrev pub rules_fit : List ClassPart → List AgentPart → Bool
-rules_fit classes agents = list_all (λ (a : AgentPart). fits a.program (record { classes = class_rows 0 classes })) agents
+rules_fit classes agents =
+    list_all (λ (a : AgentPart). fits a.program (record { classes = class_rows 0 classes })) agents
 
 -- a plan is valid where it is the plan of some parts whose rules fit
 pub record IsValid (plan : Plan) : Type 0 where
@@ -164,20 +180,25 @@ pub record IsValid (plan : Plan) : Type 0 where
   pub made : plan_of parts ≡ Ok plan
   pub rules : rules_fit parts.classes parts.agents ≡ true
 
+-- a communication process with the name of its parent in place of the number
 abbrev pub own_clp : List (List ℕ) → ClpRow → ClpPart
 own_clp names row = record { name = row.name; parent = option_map (name_at names) row.parent }
 
+-- a variable with the name of its place in place of the number
 abbrev pub own_var : List (List ℕ) → VarRow → VarPart
 own_var names row = record { name = row.name; at = name_at names row.at; value = row.value }
 
+-- an agent with the name of its home in place of the number
 abbrev pub own_agent : List (List ℕ) → AgentRow → AgentPart
-own_agent names row = record { name = row.name; home = name_at names row.home; start = row.start; program = row.program }
+own_agent names row =
+    record { name = row.name; home = name_at names row.home; start = row.start; program = row.program }
 
 -- each class with its name and with those of the variables that the layout gives it
 abbrev pub own_classes : List (List ℕ) → List ClassRow → List VarPart → List ClassPart
 own_classes [] rows vars = []
 own_classes (n ∷ ns) [] vars = []
-own_classes (n ∷ ns) (c ∷ cs) vars = (record { name = n; vars = take c.count (drop c.first vars) }) ∷ own_classes ns cs vars
+own_classes (n ∷ ns) (c ∷ cs) vars =
+    (record { name = n; vars = take c.count (drop c.first vars) }) ∷ own_classes ns cs vars
 
 -- a plan's own parts: each parent and place is the name of the CLP of that number
 unfoldable pub own_parts : Plan → PlanParts

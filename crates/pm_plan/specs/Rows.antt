@@ -6,12 +6,15 @@ use Rattle.pm_plan.specs.declared.parts.ClpPart.{ClpPart}
 use Rattle.pm_plan.specs.declared.parts.PlanParts.{PlanParts}
 use Rattle.pm_plan.specs.declared.plan.Plan.{Plan}
 
+-- a communication process of that name, below the one of the other name
 abbrev pub clp : List ℕ → Option (List ℕ) → ClpPart
 clp name parent = record { name = name; parent = parent }
 
+-- a rule that senses nothing and does nothing
 abbrev pub idle : Program
 idle = record { regs = []; senses = []; body = [] }
 
+-- the value of `v`
 abbrev pub value : Value
 value = record { x = pos 5; y = pos 7 }
 
@@ -21,7 +24,9 @@ parts clps place = record {
   horizon = 9;
   move_after = 3;
   clps = clps;
-  classes = (record { name = codes "none"; vars = [] }) ∷ (record { name = codes "some"; vars = (record { name = codes "v"; at = place; value = value }) ∷ [] }) ∷ [];
+  classes =
+      (record { name = codes "none"; vars = [] }) ∷
+      (record { name = codes "some"; vars = (record { name = codes "v"; at = place; value = value }) ∷ [] }) ∷ [];
   agents = (record { name = codes "ant"; home = codes "top"; start = 2; program = idle }) ∷ [];
 }
 

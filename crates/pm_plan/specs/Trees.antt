@@ -1,10 +1,13 @@
 -- The tree of communication processes (CLPs), by the list of their parents.
-use Rattle.std.specs.Prelude.{◌≡◌, ℕ, zero, suc, ◌+◌, ◌==◌, Bool, true, false, ◌||◌, if◌then◌else◌, List, [], ◌∷◌, length, get_or, Option, Some, None}
+use Rattle.std.specs.Prelude.{◌≡◌, ℕ, zero, suc, ◌+◌, ◌==◌, Bool, true, false, ◌||◌}
+use Rattle.std.specs.Prelude.{if◌then◌else◌, List, [], ◌∷◌, length, get_or, Option, Some, None}
 
+-- the parent is that one
 abbrev pub is_this : ℕ → Option ℕ → Bool
 is_this d None = false
 is_this d (Some e) = d == e
 
+-- the parent of c; none where c is a root, or is not there
 abbrev pub parent : List (Option ℕ) → ℕ → Option ℕ
 parent ps c = get_or ps c None
 
@@ -20,6 +23,7 @@ below_on c [] = None
 below_on c (x ∷ []) = None
 below_on c (x ∷ (y ∷ ys)) = if y == c then Some x else below_on c (y ∷ ys)
 
+-- the next one from c on the way to d: the one below c where d is below c, else the parent; c where there is neither
 abbrev pub hop_of : List (Option ℕ) → ℕ → Option ℕ → Option ℕ → ℕ
 hop_of ps c (Some d) up = d
 hop_of ps c None (Some d) = d
@@ -42,9 +46,11 @@ hops (suc fuel) ps c d = if c == d then [] else (hop ps c d) ∷ hops fuel ps (h
 abbrev pub path : List (Option ℕ) → ℕ → ℕ → List ℕ
 path ps c d = hops (length ps + length ps) ps c d
 
+-- how many edges are between c and d
 abbrev pub path_len : List (Option ℕ) → ℕ → ℕ → ℕ
 path_len ps c d = length (path ps c d)
 
+-- d is among these
 abbrev pub has : ℕ → List ℕ → Bool
 has d [] = false
 has d (x ∷ xs) = d == x || has d xs
