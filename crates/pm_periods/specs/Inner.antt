@@ -5,9 +5,11 @@ use Rattle.pm_periods.specs.Records.{IsSettled, Record}
 use Rattle.pm_periods.specs.Walks.{held_row, marked}
 use Rattle.pm_periods.specs.declared.record.VarRecord.TheInside.{Inside}
 
+-- the record's base and rows, each put without its mark
 abbrev pub parts_of : Inside → Parts
 parts_of r = record { base = r.base; puts = map held_row r.puts.items; cuts = r.cuts.items; reads = r.reads.items }
 
+-- the record that contracts see: the variable's number, and the parts
 abbrev pub record_of : Inside → Record
 record_of r = record { var = r.var; parts = parts_of r }
 

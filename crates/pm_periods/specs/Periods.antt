@@ -14,16 +14,19 @@ abbrev pub periods_of : Parts → Option Stamp → List PutRow → List Period
 periods_of r from [] = record { when = record { from = from; until = None }; value = value_below r line.End } ∷ []
 periods_of r from (p ∷ ps) =
     if is_live r.cuts p && is_after from p.stamp
-    then record { when = record { from = from; until = Some p.stamp }; value = record_value r p.stamp } ∷ periods_of r (Some p.stamp) ps
+    then record { when = record { from = from; until = Some p.stamp }; value = record_value r p.stamp } ∷
+    periods_of r (Some p.stamp) ps
     else periods_of r from ps
 
 -- a period ends at each stamp after the start at which a live put stands
 abbrev pub periods_from : Parts → Option Stamp → List Period
 periods_from r from = periods_of r from r.puts
 
+-- a read at the stamp is made in this period
 abbrev pub period_holds : Stamp → Period → Bool
 period_holds s p = holds p.when s
 
+-- what each read of the period sees
 abbrev pub period_value : Period → Value
 period_value p = p.value
 

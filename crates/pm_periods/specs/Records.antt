@@ -1,5 +1,7 @@
 -- One variable's record: what its puts, cuts and reads mean.
-use Rattle.std.specs.Prelude.{◌≡◌, ℕ, ◌+◌, ◌<◌, ◌^◌, ◌-◌, min, ◌&&◌, ◌||◌, Bool, true, false, not, if◌then◌else◌, List, [], ◌∷◌, length, map, filter, Option, Some, None}
+use Rattle.std.specs.Prelude.{◌≡◌, ℕ, ◌+◌, ◌<◌, ◌^◌, ◌-◌, min, ◌&&◌, ◌||◌, Bool, true}
+use Rattle.std.specs.Prelude.{false, not, if◌then◌else◌, List, [], ◌∷◌, length, map, filter, Option, Some}
+use Rattle.std.specs.Prelude.{None}
 use Rattle.std.specs.List.{AllByRecursion}
 use Rattle.std.specs.Ordering.{int_eq}
 use Rattle.pm_base.specs.Changes.{applied}
@@ -27,6 +29,7 @@ pub record Record : Type 0 where
 abbrev pub is_live : List CutRow → PutRow → Bool
 is_live cuts p = not (has_num cut_key p.num cuts)
 
+-- the put is live and below the line, so that what is seen at the line has its change
 abbrev pub is_seen : List CutRow → Line → PutRow → Bool
 is_seen cuts line p = is_live cuts p && is_below p.stamp line
 
@@ -44,6 +47,7 @@ value_below r l = value_after (filter (is_seen r.cuts l) r.puts) r.base
 abbrev pub record_value : Parts → Stamp → Value
 record_value r s = value_below r (line.At s)
 
+-- a value that is seen is a hit where it is inside the read's window
 abbrev pub hit_in : Value → Window → Option Value
 hit_in v w = if inside v w then Some v else None
 
@@ -51,9 +55,11 @@ hit_in v w = if inside v w then Some v else None
 abbrev pub hit_by : (Stamp → Value) → ReadRow → Option Value
 hit_by sees q = hit_in (sees q.stamp) q.window
 
+-- a read's hit in this record
 abbrev pub record_hit : Parts → ReadRow → Option Value
 record_hit r q = hit_by (record_value r) q
 
+-- the two hits tell the same: neither tells a value, or both tell the same one
 abbrev pub hit_eq : Option Value → Option Value → Bool
 hit_eq None None = true
 hit_eq None (Some w) = false
@@ -72,10 +78,12 @@ last_give var q = record { num = q.num; stamp = q.stamp; var = var; turn = q.tur
 abbrev pub next_give : ℕ → (Stamp → Value) → ReadRow → GiveRow
 next_give var sees q = record { num = q.num; stamp = q.stamp; var = var; turn = q.turn + 1; hit = hit_by sees q }
 
+-- the read after it was given this hit, where it was: that hit is its last one, with a turn one higher
 abbrev pub given_when : Bool → Option Value → ReadRow → ReadRow
 given_when false h q = q
 given_when true h q = record { num = q.num; stamp = q.stamp; window = q.window; turn = q.turn + 1; hit = h }
 
+-- the read after it was given the hit that it has now, where its last one is another
 abbrev pub fresh_read : (Stamp → Value) → ReadRow → ReadRow
 fresh_read sees q = given_when (is_stale sees q) (hit_by sees q) q
 
@@ -95,27 +103,37 @@ refreshed r = record { base = r.base; puts = r.puts; cuts = r.cuts; reads = map 
 abbrev pub refreshed_unless : Bool → Parts → Parts → Parts
 refreshed_unless known old new = if known then old else refreshed new
 
+-- the hits that change as a row is received: none where a row of its number was received before
 abbrev pub changed_unless : Bool → ℕ → Parts → List GiveRow
 changed_unless known var new = if known then [] else changed_hits var new
 
+-- the record with one more put, no hit given yet
 abbrev pub with_put : PutRow → Parts → Parts
 with_put p r = record { base = r.base; puts = add_row put_key p r.puts; cuts = r.cuts; reads = r.reads }
 
+-- the record after a put was received: the reads whose hit it changed were given the new one; a put that was received
+-- before changes nothing
 abbrev pub after_put : PutRow → Parts → Parts
 after_put p r = refreshed_unless (has_num put_key p.num r.puts) r (with_put p r)
 
+-- the hits that receiving this put gives
 abbrev pub gives_of_put : ℕ → PutRow → Parts → List GiveRow
 gives_of_put var p r = changed_unless (has_num put_key p.num r.puts) var (with_put p r)
 
+-- the withdrawal of the put of this number and stamp
 abbrev pub cut_row : Num → Stamp → CutRow
 cut_row n s = record { num = n; stamp = s }
 
+-- the record with one more cut, no hit given yet
 abbrev pub with_cut : CutRow → Parts → Parts
 with_cut c r = record { base = r.base; puts = r.puts; cuts = add_row cut_key c r.cuts; reads = r.reads }
 
+-- the record after a cut was received: the put of its number is live no more, now or when it comes, and the reads whose
+-- hit this changed were given the new one; a cut that was received before changes nothing
 abbrev pub after_cut : CutRow → Parts → Parts
 after_cut c r = refreshed_unless (has_num cut_key c.num r.cuts) r (with_cut c r)
 
+-- the hits that receiving this cut gives
 abbrev pub gives_of_cut : ℕ → CutRow → Parts → List GiveRow
 gives_of_cut var c r = changed_unless (has_num cut_key c.num r.cuts) var (with_cut c r)
 
@@ -123,18 +141,24 @@ gives_of_cut var c r = changed_unless (has_num cut_key c.num r.cuts) var (with_c
 abbrev pub first_read : Num → Stamp → Window → ReadRow
 first_read n s w = record { num = n; stamp = s; window = w; turn = 0; hit = None }
 
+-- the record with one more read, no hit given yet
 abbrev pub with_read : ReadRow → Parts → Parts
 with_read q r = record { base = r.base; puts = r.puts; cuts = r.cuts; reads = add_row read_key q r.reads }
 
+-- the record after a read was received: it was given its first hit, where it has one; a read that is known already
+-- changes nothing
 abbrev pub after_watch : ReadRow → Parts → Parts
 after_watch q r = refreshed_unless (has_num read_key q.num r.reads) r (with_read q r)
 
+-- the hits that receiving this read gives: its own first one, where it has one
 abbrev pub gives_of_watch : ℕ → ReadRow → Parts → List GiveRow
 gives_of_watch var q r = changed_unless (has_num read_key q.num r.reads) var (with_read q r)
 
+-- the record of the variable of this number with these parts
 abbrev pub record_with : ℕ → Parts → Record
 record_with var parts = record { var = var; parts = parts }
 
+-- the record that begins with this value and has received nothing
 abbrev pub empty_record : ℕ → Value → Record
 empty_record var v = record { var = var; parts = record { base = v; puts = []; cuts = []; reads = [] } }
 
@@ -146,6 +170,7 @@ with_parts r parts = record { var = r.var; parts = parts }
 abbrev pub put_stays : Line → PutRow → Bool
 put_stays l p = not (is_below p.stamp l)
 
+-- a read that isn't below the line stays too
 abbrev pub read_stays : Line → ReadRow → Bool
 read_stays l q = not (is_below q.stamp l)
 
@@ -162,9 +187,11 @@ trimmed l r = record {
   reads = filter (read_stays l) r.reads;
 }
 
+-- the read with the hit that it has now, in place of the one that it was last given, its turn as it was
 abbrev pub with_hit : (Stamp → Value) → ReadRow → ReadRow
 with_hit sees q = record { num = q.num; stamp = q.stamp; window = q.window; turn = q.turn; hit = hit_by sees q }
 
+-- the parts with each list in order, the first row of each number
 abbrev pub parts_in_order : Parts → Parts
 parts_in_order r = record {
   base = r.base;
@@ -173,8 +200,14 @@ parts_in_order r = record {
   reads = rows_in_order read_key r.reads;
 }
 
+-- the parts with each read's hit as it is in this record, its turn as it was
 abbrev pub with_present_hits : Parts → Parts
-with_present_hits r = record { base = r.base; puts = r.puts; cuts = r.cuts; reads = map (with_hit (record_value r)) r.reads }
+with_present_hits r = record {
+  base = r.base;
+  puts = r.puts;
+  cuts = r.cuts;
+  reads = map (with_hit (record_value r)) r.reads;
+}
 
 -- any parts as a record: each list in order, each number once, and each read with the hit that it has in this record
 abbrev pub settled : Parts → Parts

@@ -12,17 +12,22 @@ use Rattle.pm_base.specs.declared.stamp.Stamp.{Stamp}
 use Rattle.pm_base.specs.declared.value.Change.TheVariants as change
 use Rattle.pm_base.specs.declared.value.Value.{Value}
 use Rattle.pm_periods.specs.Periods.{periods_from}
-use Rattle.pm_periods.specs.Records.{after_cut, after_put, after_watch, cut_row, first_read, gives_of_cut, gives_of_put, gives_of_watch, record_value, trimmed}
+use Rattle.pm_periods.specs.Records.{after_cut, after_put, after_watch, cut_row, first_read, gives_of_cut, gives_of_put}
+use Rattle.pm_periods.specs.Records.{gives_of_watch, record_value, trimmed}
 
+-- the moment of this time and agent
 abbrev pub at : ℕ → ℕ → Stamp
 at time agent = record { time = time; agent = agent }
 
+-- the value whose second coordinate is 0
 abbrev pub pair : ℕ → Value
 pair x = record { x = pos x; y = pos 0 }
 
+-- the record of value (0,0) that has received nothing
 abbrev pub fresh : Parts
 fresh = record { base = pair 0; puts = []; cuts = []; reads = [] }
 
+-- a read at (5,1) of any value
 abbrev pub read : ReadRow
 read = first_read (record { agent = 1; seq = 1 }) (at 5 1) whole
 
@@ -30,27 +35,37 @@ read = first_read (record { agent = 1; seq = 1 }) (at 5 1) whole
 abbrev pub given : ℕ → ℕ → List GiveRow
 given turn x = record { num = read.num; stamp = read.stamp; var = 4; turn = turn; hit = Some (pair x) } ∷ []
 
+-- a write of (7,0) at (3,0), which is received after the read that sees it
 abbrev pub late : PutRow
 late = record { num = record { agent = 0; seq = 1 }; stamp = at 3 0; change = change.Set (pair 7) }
 
+-- a write of (8,0) at the stamp of the read, which doesn't see it
 abbrev pub unseen : PutRow
 unseen = record { num = record { agent = 1; seq = 2 }; stamp = at 5 1; change = change.Set (pair 8) }
 
+-- the withdrawal of the late write
 abbrev pub withdrawal : CutRow
 withdrawal = cut_row late.num late.stamp
 
+-- the record after the read
 abbrev pub was_read : Parts
 was_read = after_watch read fresh
 
+-- and after the late write
 abbrev pub was_written : Parts
 was_written = after_put late was_read
 
+-- and after the write that the read doesn't see
 abbrev pub was_written_again : Parts
 was_written_again = after_put unseen was_written
 
+-- and after the withdrawal of the late write
 abbrev pub was_withdrawn : Parts
 was_withdrawn = after_cut withdrawal was_written_again
 
+-- what the record gives at each of these rows: (0,0) to the read, (7,0) after the late write, nothing for the unseen
+-- one, (0,0) again after the withdrawal, nothing for a read that is known; then what is seen at (6,0), the periods
+-- after (4,0), and what is left below (6,0)
 pub record SampleRecord : Type 0 where
   pub reads : gives_of_watch 4 read fresh ≡ given 1 0
   pub writes : gives_of_put 4 late was_read ≡ given 2 7

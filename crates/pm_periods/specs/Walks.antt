@@ -1,5 +1,6 @@
 -- Puts with the mark whether they are live, and the walk along them.
-use Rattle.std.specs.Prelude.{◌≡◌, ℕ, zero, suc, ◌<◌, ◌&&◌, ◌||◌, ◌++◌, Bool, false, not, Option, Some, None, if◌then◌else◌, List, [], ◌∷◌, length, slice_index_or}
+use Rattle.std.specs.Prelude.{◌≡◌, ℕ, zero, suc, ◌<◌, ◌&&◌, ◌||◌, ◌++◌, Bool, false, not}
+use Rattle.std.specs.Prelude.{Option, Some, None, if◌then◌else◌, List, [], ◌∷◌, length, slice_index_or}
 use Rattle.pm_base.specs.Changes.{applied}
 use Rattle.pm_base.specs.Stamps.{is_after, is_below, stamp_lt}
 use Rattle.pm_base.specs.declared.rows.CutRow.{CutRow}
@@ -15,9 +16,11 @@ use Rattle.pm_periods.specs.Rows.{has_num, put_key}
 use Rattle.pm_periods.specs.declared.held.Held.{Held}
 use Rattle.pm_periods.specs.declared.rows.RowKey.{RowKey}
 
+-- the put without its mark
 abbrev pub held_row : Held → PutRow
 held_row h = h.row
 
+-- a marked put stands where its put does
 abbrev pub held_key : Held → RowKey
 held_key h = put_key h.row
 
@@ -58,6 +61,7 @@ withdrawn_at (suc n) (h ∷ hs) = h ∷ withdrawn_at n hs
 abbrev pub CannotSee : List Held → ℕ → ReadRow → Type 0
 CannotSee hs n q = (d : Held) → n < length hs → stamp_lt (slice_index_or hs n d).row.stamp q.stamp ≡ false
 
+-- the put isn't below the line
 abbrev pub held_stays : Line → Held → Bool
 held_stays l h = put_stays l h.row
 
@@ -72,6 +76,7 @@ ended from v h =
     then record { when = record { from = from; until = Some h.row.stamp }; value = v } ∷ []
     else []
 
+-- where the next period starts: at the put, where it ended one, else where the present one does
 abbrev pub next_start : Option Stamp → Held → Option Stamp
 next_start from h = if h.live && is_after from h.row.stamp then Some h.row.stamp else from
 
