@@ -1,5 +1,6 @@
 -- Windows in which the values of a class were seen, each in an interval, and what they are together at a stamp.
-use Rattle.std.specs.Prelude.{◌≡◌, ◌&&◌, Bool, true, false, int_le, if◌then◌else◌, List, [], ◌∷◌, Option, Some, None}
+use Rattle.std.specs.Prelude.{◌≡◌, ◌&&◌, Bool, true, false, int_le, if◌then◌else◌, List, [], ◌∷◌}
+use Rattle.std.specs.Prelude.{Option, Some, None}
 use Rattle.pm_base.specs.Stamps.{holds}
 use Rattle.pm_base.specs.Windows.{join_of}
 use Rattle.pm_base.specs.declared.stamp.Interval.{Interval}

@@ -1,5 +1,6 @@
 -- What is known of one class behind one port: a bound for each stamp.
-use Rattle.std.specs.Prelude.{◌≡◌, Bool, true, false, not, ◌&&◌, ◌||◌, if◌then◌else◌, is_none, List, [], ◌∷◌, map, filter, Option, Some, None}
+use Rattle.std.specs.Prelude.{◌≡◌, Bool, true, false, not, ◌&&◌, ◌||◌, if◌then◌else◌, is_none, List}
+use Rattle.std.specs.Prelude.{[], ◌∷◌, map, filter, Option, Some, None}
 use Rattle.pm_base.specs.Stamps.{stamp_lt, is_below, holds}
 use Rattle.pm_base.specs.declared.stamp.Interval.{Interval}
 use Rattle.pm_base.specs.declared.stamp.Line.{Line}
@@ -20,9 +21,11 @@ abbrev pub bound_of : List Piece → Option Window → Stamp → Option Window
 bound_of [] rest s = rest
 bound_of (p ∷ ps) rest s = if stamp_lt p.until s then bound_of ps rest s else p.window
 
+-- the bound at a stamp: the window of all that is known there, None where nothing is
 abbrev pub bound_at : Known → Stamp → Option Window
 bound_at b s = bound_of b.pieces b.rest s
 
+-- before anything was grown, at each stamp from the first on
 abbrev pub nothing_known : Known
 nothing_known = record { line = line.At (record { time = 0; agent = 0 }); pieces = []; rest = None }
 
@@ -34,6 +37,7 @@ parted e (p ∷ ps) rest =
     else if stamp_lt e p.until then record { until = e; window = p.window } ∷ p ∷ ps
     else p ∷ ps
 
+-- the same bounds, with a piece that ends at this end of an interval, where it has one
 abbrev pub parted_at : Option Stamp → List Piece → Option Window → List Piece
 parted_at None ps rest = ps
 parted_at (Some e) ps rest = parted e ps rest
@@ -42,6 +46,7 @@ parted_at (Some e) ps rest = parted e ps rest
 abbrev pub raised_one : Interval → Window → Piece → Piece
 raised_one when w p = if holds when p.until then record p { window = Some (joined w p.window) } else p
 
+-- the window joined to each of the pieces that the interval holds
 abbrev pub raised : Interval → Window → List Piece → List Piece
 raised when w ps = map (raised_one when w) ps
 
@@ -57,14 +62,17 @@ grown_pieces when w ps rest = raised when w (parted_at when.until (parted_at whe
 abbrev pub covered_at : Known → Interval → Window → Stamp → Bool
 covered_at b when w s = is_below s b.line || (not (holds when s) || lies_in w (bound_at b s))
 
+-- so at the end of each piece
 abbrev pub ends_covered : Known → Interval → Window → List Piece → Bool
 ends_covered b when w [] = true
 ends_covered b when w (p ∷ ps) = covered_at b when w p.until && ends_covered b when w ps
 
+-- the line is the end, so that no stamp is asked any more
 abbrev pub is_end : Line → Bool
 is_end (line.At l) = false
 is_end line.End = true
 
+-- so at the interval's end; where it has none, behind all pieces
 abbrev pub last_covered : Known → Interval → Window → Option Stamp → Bool
 last_covered b when w None = is_end b.line || lies_in w b.rest
 last_covered b when w (Some u) = covered_at b when w u

@@ -1,6 +1,7 @@
 -- How the pieces lie: their ends rise, and no window is inverted. So a stamp's piece is found by halving, and the bound
 -- at the end of a piece is its own.
-use Rattle.std.specs.Prelude.{ℕ, suc, ◌≡◌, ◌==◌, Bool, true, false, not, ◌&&◌, ◌||◌, if◌then◌else◌, List, [], ◌∷◌, Option, Some, None}
+use Rattle.std.specs.Prelude.{ℕ, suc, ◌≡◌, ◌==◌, Bool, true, false, not, ◌&&◌, ◌||◌}
+use Rattle.std.specs.Prelude.{if◌then◌else◌, List, [], ◌∷◌, Option, Some, None}
 use Rattle.pm_base.specs.Stamps.{stamp_lt, is_after, is_below, holds}
 use Rattle.pm_base.specs.Windows.{is_inverted}
 use Rattle.pm_base.specs.declared.stamp.Interval.{Interval}
@@ -15,18 +16,22 @@ abbrev pub Above : Option Stamp → List Piece → Type 0
 Above e [] = Unit {0}
 Above e (p ∷ ps) = (is_after e p.until ≡ true) × Above e ps
 
+-- each piece ends after the one before it
 abbrev pub Rising : List Piece → Type 0
 Rising [] = Unit {0}
 Rising (p ∷ ps) = Above (Some p.until) ps × Rising ps
 
+-- the window, where there is one, isn't inverted
 abbrev pub Upright : Option Window → Type 0
 Upright None = Unit {0}
 Upright (Some w) = is_inverted w ≡ false
 
+-- no piece's window is inverted
 abbrev pub AllUpright : List Piece → Type 0
 AllUpright [] = Unit {0}
 AllUpright (p ∷ ps) = Upright p.window × AllUpright ps
 
+-- the pieces end one after another, and no window of theirs or behind them is inverted
 pub record IsLaid (pieces : List Piece) (rest : Option Window) : Type 0 where
   pub rising : Rising pieces
   pub upright : AllUpright pieces
@@ -41,6 +46,7 @@ before s (p ∷ ps) = if stamp_lt p.until s then suc (before s ps) else 0
 abbrev pub piece_covers : Line → Interval → Window → Piece → Bool
 piece_covers l when w p = is_below p.until l || (not (holds when p.until) || lies_in w p.window)
 
+-- so of all pieces
 abbrev pub pieces_cover : Line → Interval → Window → List Piece → Bool
 pieces_cover l when w [] = true
 pieces_cover l when w (p ∷ ps) = piece_covers l when w p && pieces_cover l when w ps

@@ -1,5 +1,7 @@
 -- The ways to the variables, and how often each variable was asked for from where.
-use Rattle.std.specs.Prelude.{ℕ, suc, ◌+◌, ◌-◌, ◌^◌, ◌<◌, ◌≤◌, ◌≡◌, ◌==◌, ◌&&◌, Bool, nat_lt, nat_le, min, if◌then◌else◌, List, [], ◌∷◌, length, get_or, set, slice_get, replicate, Option}
+use Rattle.std.specs.Prelude.{ℕ, suc, ◌+◌, ◌-◌, ◌^◌, ◌<◌, ◌≤◌, ◌≡◌, ◌==◌, ◌&&◌}
+use Rattle.std.specs.Prelude.{Bool, nat_lt, nat_le, min, if◌then◌else◌, List, [], ◌∷◌, length, get_or, set}
+use Rattle.std.specs.Prelude.{slice_get, replicate, Option}
 use Rattle.std.specs.List.{Contains}
 use Rattle.pm_routes.specs.declared.way.Way.{Way}
 use Rattle.pm_routes.specs.declared.way.Way.TheVariants as way
@@ -12,6 +14,7 @@ pub record Routing : Type 0 where
   pub move_after : ℕ
   pub counts : List (List ℕ)
 
+-- a routing of these ways, ports, threshold and counts
 abbrev pub routing : List Way → List ℕ → ℕ → List (List ℕ) → Routing
 routing ways ports move_after counts = record { ways = ways; ports = ports; move_after = move_after; counts = counts }
 
@@ -24,6 +27,7 @@ place_of (p ∷ ps) port = if p == port then 0 else suc (place_of ps port)
 abbrev pub way_at : Routing → ℕ → Option Way
 way_at r var = slice_get r.ways var
 
+-- the counts of a variable, none where there is no such variable
 abbrev pub counts_at : Routing → ℕ → List ℕ
 counts_at r var = get_or r.counts var []
 
@@ -31,6 +35,7 @@ counts_at r var = get_or r.counts var []
 abbrev pub count_at : Routing → ℕ → ℕ → ℕ
 count_at r var from = get_or (counts_at r var) (place_of r.ports from) 0
 
+-- all of these counts together
 abbrev pub total : List ℕ → ℕ
 total [] = 0
 total (n ∷ ns) = n + total ns
@@ -43,12 +48,15 @@ others_at r var from = total (set (counts_at r var) (place_of r.ports from) 0)
 abbrev pub no_counts : List ℕ → List ℕ
 no_counts ports = replicate (suc (length ports)) 0
 
+-- these ways, with each variable not yet asked for from anywhere
 abbrev pub first_routing : List Way → List ℕ → ℕ → Routing
 first_routing ways ports move_after = routing ways ports move_after (replicate (length ways) (no_counts ports))
 
+-- the variable left by that port: its way is the port, and its counts stay as they were
 abbrev pub left : Routing → ℕ → ℕ → Routing
 left r var port = record r { ways = set r.ways var (way.Port port) }
 
+-- the variable arrived: its way is Here, and it was not yet asked for from anywhere
 abbrev pub arrived : Routing → ℕ → Routing
 arrived r var = record r { ways = set r.ways var way.Here; counts = set r.counts var (no_counts r.ports) }
 
@@ -56,6 +64,7 @@ arrived r var = record r { ways = set r.ways var way.Here; counts = set r.counts
 abbrev pub raised : List ℕ → ℕ → List ℕ
 raised counts place = set counts place (min (get_or counts place 0 + 1) (2 ^ 64 - 1))
 
+-- the variable was asked for once more from there
 abbrev pub counted : Routing → ℕ → ℕ → Routing
 counted r var from = record r { counts = set r.counts var (raised (counts_at r var) (place_of r.ports from)) }
 
@@ -63,9 +72,10 @@ counted r var from = record r { counts = set r.counts var (raised (counts_at r v
 pub record CountsOne (r : Routing) (var from : ℕ) : Type 0 where
   pub there : var < length r.counts → place_of r.ports from < length (counts_at r var) →
       count_at (counted r var from) var from ≡ min (count_at r var from + 1) (2 ^ 64 - 1)
-  pub other_ports : (port : ℕ) → (place_of r.ports port ≡ place_of r.ports from → ⊥) → var < length r.counts →
-      count_at (counted r var from) var port ≡ count_at r var port
-  pub other_variables : (v port : ℕ) → (v ≡ var → ⊥) → count_at (counted r var from) v port ≡ count_at r v port
+  pub other_ports : (port : ℕ) → (place_of r.ports port ≡ place_of r.ports from → ⊥) →
+      var < length r.counts → count_at (counted r var from) var port ≡ count_at r var port
+  pub other_variables : (v port : ℕ) → (v ≡ var → ⊥) →
+      count_at (counted r var from) v port ≡ count_at r v port
 
 -- the variable belongs at that port: variables move, and its count there has reached the threshold and is more than
 -- all its other counts together
