@@ -22,6 +22,7 @@ small_plan horizon agents = record {
   agents = agents;
 }
 
+-- an agent of that name and rule, which starts at time 0
 abbrev pub agent_of : List ℕ → Program → AgentRow
 agent_of name program = record { name = name; home = 0; start = 0; program = program }
 

@@ -1,6 +1,8 @@
 -- The sequential run of a plan.
 use Rattle.std.specs.List.{AllByRecursion}
-use Rattle.std.specs.Prelude.{◌≡◌, ℕ, zero, suc, ◌+◌, ◌-◌, ◌^◌, ◌<◌, ◌≤◌, min, nat_lt, nat_le, if◌then◌else◌, List, [], ◌∷◌, ◌++◌, map, length, set, slice_get, slice_index_or, sum_by, Option, Some, None, IfSome, option_map, option_and_then, ℤ, pos}
+use Rattle.std.specs.Prelude.{◌≡◌, ℕ, zero, suc, ◌+◌, ◌-◌, ◌^◌, ◌<◌, ◌≤◌, min, nat_lt}
+use Rattle.std.specs.Prelude.{nat_le, if◌then◌else◌, List, [], ◌∷◌, ◌++◌, map, length, set, slice_get}
+use Rattle.std.specs.Prelude.{slice_index_or, sum_by, Option, Some, None, IfSome, option_map, option_and_then, ℤ, pos}
 use Rattle.pm_base.specs.Changes.{applied}
 use Rattle.pm_base.specs.declared.layout.ClassRow.{ClassRow}
 use Rattle.pm_base.specs.declared.program.Program.{Program}
@@ -89,6 +91,7 @@ pub record Moved : Type 0 where
   pub entry : Entry
   pub state : State
 
+-- the entry of these deeds, and the state after them, with the writes made and the agent waiting for its next time
 abbrev pub moved : Plan → State → Stamp → Deed → Moved
 moved plan s stamp d = record {
   entry = record { stamp = stamp; answers = d.answers; writes = d.act.writes };
