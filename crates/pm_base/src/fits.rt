@@ -1,7 +1,11 @@
-ghost use Rattle.std.specs.Prelude.{◌≡◌, List as Seq, [], ◌∷◌, ◌≤◌, ◌<◌, ◌+◌, ◌^◌, ◌++◌, ◌&&◌, true, not, nat_lt, min, max, drop, length};
+ghost use Rattle.std.specs.Prelude.{◌≡◌, List as Seq, [], ◌∷◌, ◌≤◌, ◌<◌, ◌+◌, ◌^◌};
+ghost use Rattle.std.specs.Prelude.{◌++◌, ◌&&◌, true, not, nat_lt, min, max, drop, length};
 ghost use Rattle.pm_base.specs.Layouts.{IsLayout, class_row};
 ghost use Rattle.pm_base.specs.Names.{is_name, is_reserved};
-ghost use Rattle.pm_base.specs.Fits.{tokens_of, place_tokens, sense_tokens, change_tokens, in_line, else_lines, lines_of, lines_of_all, depth_of, depth_of_all, is_known, place_known, sense_known, change_known, stmt_fits, stmts_fit, senses_fit, reg_names, sense_names, has_name, names_fit, are_few, is_short, tree_fits, fits};
+ghost use Rattle.pm_base.specs.Fits.{tokens_of, place_tokens, sense_tokens, change_tokens, in_line, else_lines};
+ghost use Rattle.pm_base.specs.Fits.{lines_of, lines_of_all, depth_of, depth_of_all, is_known, place_known};
+ghost use Rattle.pm_base.specs.Fits.{sense_known, change_known, stmt_fits, stmts_fit, senses_fit, reg_names};
+ghost use Rattle.pm_base.specs.Fits.{sense_names, has_name, names_fit, are_few, is_short, tree_fits, fits};
 ghost use Rattle.pm_base.specs.declared.program.Expr.TheVariants.{Bin};
 ghost use Rattle.pm_base.specs.declared.program.Stmt.TheVariants.{If};
 
@@ -199,7 +203,8 @@ fn change_known(classes: &[ClassRow], known: Known, place: &Place, x: &Expr, y: 
 }
 
 fn change_fits(classes: &[ClassRow], known: Known, place: &Place, x: &Expr, y: &Expr) -> bool
-    ensures { result ≡ (in_line (change_tokens place.now x.now y.now) && change_known classes.now known place.now x.now y.now) }
+    ensures { result ≡ (in_line (change_tokens place.now x.now y.now) &&
+        change_known classes.now known place.now x.now y.now) }
 {
     change_tokens(place, x, y) <= 64 && change_known(classes, known, place, x, y)
 }
@@ -390,6 +395,8 @@ pub fn printed_forms_are_counted(
 )
     ensures tokens { tokens_of (Bin op a.now b.now) ≡ 3 + tokens_of a.now + tokens_of b.now }
     ensures alone { second.now ≡ [] → lines_of (If test.now first.now second.now) ≡ 2 + lines_of_all first.now }
-    ensures both { (s : Stmt) (more : Seq Stmt) → second.now ≡ s ∷ more → lines_of (If test.now first.now second.now) ≡ 3 + lines_of_all first.now + lines_of_all second.now }
-    ensures depth { depth_of (If test.now first.now second.now) ≡ 1 + max (depth_of_all first.now) (depth_of_all second.now) }
+    ensures both { (s : Stmt) (more : Seq Stmt) → second.now ≡ s ∷ more →
+        lines_of (If test.now first.now second.now) ≡ 3 + lines_of_all first.now + lines_of_all second.now }
+    ensures depth { depth_of (If test.now first.now second.now) ≡
+        1 + max (depth_of_all first.now) (depth_of_all second.now) }
 {}

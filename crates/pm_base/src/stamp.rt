@@ -1,5 +1,6 @@
 ghost use Rattle.std.specs.Prelude.{◌≡◌, IsTrue, ◌↔◌};
-ghost use Rattle.pm_base.specs.Stamps.{IsBefore, IsBelow, IsStrictOrder, IsLeast, IsWithin, ordering_by, stamp_lt, is_below, line_lt, num_lt, or_lower, least_line_of, holds};
+ghost use Rattle.pm_base.specs.Stamps.{IsBefore, IsBelow, IsStrictOrder, IsLeast, IsWithin, ordering_by, stamp_lt};
+ghost use Rattle.pm_base.specs.Stamps.{is_below, line_lt, num_lt, or_lower, least_line_of, holds};
 
 /// The moment of one step: a time, and the number of the agent that acts at it. An agent does at most one step at a
 /// time, so a stamp names one step. Stamps are ordered by time, then by agent.

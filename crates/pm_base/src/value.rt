@@ -1,7 +1,8 @@
 ghost use Rattle.std.specs.Prelude.{◌≡◌, false, IsTrue, ◌↔◌};
 ghost use Rattle.std.specs.Int.{int_min, int_max};
 ghost use Rattle.pm_base.specs.Changes.{applied};
-ghost use Rattle.pm_base.specs.Windows.{Inside, IsInverted, IsPair, Within, IsLeastBox, Meets, between, inside, is_inverted, join_of, overlap, meets, point_of, whole};
+ghost use Rattle.pm_base.specs.Windows.{Inside, IsInverted, IsPair, Within, IsLeastBox, Meets, between, inside};
+ghost use Rattle.pm_base.specs.Windows.{is_inverted, join_of, overlap, meets, point_of, whole};
 
 /// What a variable holds: a pair of numbers.
 #[derive(Clone, Copy, Debug, PartialEq, Eq)]

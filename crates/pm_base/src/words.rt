@@ -65,5 +65,6 @@ pub fn names_are_told()
     ensures bytes { (is_name (codes "aB") ≡ false) × (is_name (codes "a-b") ≡ false) × (is_name (codes "") ≡ false) }
     ensures longest { is_name (codes "a0123456789abcdefghijklmnopqrstu") ≡ true }
     ensures longer { is_name (codes "a0123456789abcdefghijklmnopqrstuv") ≡ false }
-    ensures reserved { (is_reserved (codes "max") ≡ true) × (is_reserved (codes "maxi") ≡ false) × (is_reserved (codes "add") ≡ false) }
+    ensures reserved { (is_reserved (codes "max") ≡ true) × (is_reserved (codes "maxi") ≡ false) ×
+        (is_reserved (codes "add") ≡ false) }
 {}
