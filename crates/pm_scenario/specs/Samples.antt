@@ -6,9 +6,11 @@ use Rattle.pm_rules.specs.Samples.{worked_program, worked_text}
 -- one process, one variable and one agent; what may be absent is absent
 abbrev pub worked_scenario : List ℕ
 worked_scenario =
-    codes "version = 1\nhorizon = 2\n[[clp]]\nname = 'root'\n[[class]]\nname = 'cell'\n[[class.var]]\nname = 'c0'\nat = 'root'\n" ++
+    codes "version = 1\nhorizon = 2\n[[clp]]\nname = 'root'\n" ++
+    codes "[[class]]\nname = 'cell'\n[[class.var]]\nname = 'c0'\nat = 'root'\n" ++
     codes "[[agent]]\nname = 'ant'\nhome = 'root'\nrule = '''\n" ++ worked_text ++ codes "'''\n"
 
+-- the plan of that scenario, whose agent starts at 0 and whose variable is 0, 0 at first
 abbrev pub worked_plan : Plan
 worked_plan = record {
   horizon = 2;

@@ -5,6 +5,7 @@ use Rattle.std.specs.Cmp.Lexicographic.{slice_cmp}
 use Rattle.toml.specs.Data.{Members, no_members, member}
 use Rattle.pm_scenario.specs.Forms.{is_listed}
 
+-- the keys of a table in its order
 abbrev pub keys_of : Members → List (List ℕ)
 keys_of no_members = []
 keys_of (member k d ms) = k ∷ keys_of ms

@@ -2,7 +2,8 @@ ghost use Rattle.std.specs.Prelude.{◌≡◌, []};
 ghost use Rattle.toml.specs.View.{table_view};
 ghost use Rattle.pm_scenario.specs.Forms.{Gives, field_at, walk};
 ghost use Rattle.pm_scenario.specs.Places.{prefix_of};
-ghost use Rattle.pm_scenario.specs.Scenarios.{version_number, known, version, clp_form, class_form, var_form, agent_form, root_form, draft_of_root};
+ghost use Rattle.pm_scenario.specs.Scenarios.{version_number, known, version, draft_of_root};
+ghost use Rattle.pm_scenario.specs.Scenarios.{clp_form, class_form, var_form, agent_form, root_form};
 
 use crate::ScenarioFault;
 use crate::fields::{count_at, find, no_strange, number_at, optional_text_at, text_at};

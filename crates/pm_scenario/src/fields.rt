@@ -1,7 +1,8 @@
 ghost use Rattle.std.specs.Prelude.{◌≡◌, ◌++◌, option_map, map, Some, None};
 ghost use Rattle.toml.specs.Data.{get_member};
 ghost use Rattle.toml.specs.View.{table_view, view};
-ghost use Rattle.pm_scenario.specs.Forms.{Gives, is_listed, strange, no_strange, field_at, required, default, text, number, as_count, count, optional};
+ghost use Rattle.pm_scenario.specs.Forms.{Gives, is_listed, strange, no_strange, field_at, required, default};
+ghost use Rattle.pm_scenario.specs.Forms.{text, number, as_count, count, optional};
 ghost use Rattle.pm_scenario.specs.Places.{prefix_of};
 
 use crate::ScenarioFault;

@@ -2,7 +2,8 @@ ghost use Rattle.std.specs.Prelude.{◌≡◌, ℕ, List, Some, Ok, Err, true, f
 ghost use Rattle.std.specs.List.{AllByRecursion};
 ghost use Rattle.toml.specs.Data.{Members, members_are_sorted};
 ghost use Rattle.pm_scenario.specs.Forms.{is_listed, strange};
-ghost use Rattle.pm_scenario.specs.Samples.{worked_scenario, worked_plan, later_version, two_strange_keys, table_and_number, empty_table_and_number, number_as_text};
+ghost use Rattle.pm_scenario.specs.Samples.{worked_scenario, worked_plan, later_version, two_strange_keys};
+ghost use Rattle.pm_scenario.specs.Samples.{table_and_number, empty_table_and_number, number_as_text};
 ghost use Rattle.pm_scenario.specs.Scenarios.{plan_of};
 ghost use Rattle.pm_scenario.specs.Strangers.{keys_of, IsListedOrAfter};
 ghost use Rattle.pm_scenario.specs.declared.fault.ScenarioFault.TheVariants as fault;

@@ -1,6 +1,7 @@
 ghost use Rattle.std.specs.Prelude.{◌≡◌, ◌++◌, [], option_map};
 ghost use Rattle.toml.specs.View.{table_view, view, items_view};
-ghost use Rattle.pm_scenario.specs.Forms.{Gives, Form, walk, is_table, all_tables, element, elements, tables, field_at, default, indexed, inside};
+ghost use Rattle.pm_scenario.specs.Forms.{Gives, Form, walk, field_at, default, indexed, inside};
+ghost use Rattle.pm_scenario.specs.Forms.{is_table, all_tables, element, elements, tables};
 ghost use Rattle.pm_scenario.specs.Places.{prefix_of};
 
 use crate::ScenarioFault;
