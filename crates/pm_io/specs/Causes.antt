@@ -1,5 +1,6 @@
 -- When the outside may fail, what its counts then say, and what a call leaves.
-use Rattle.std.specs.Prelude.{◌≡◌, ℕ, ◌+◌, ◌-◌, ◌^◌, ◌<◌, ◌≤◌, ◌==◌, ◌&&◌, nat_lt, if◌then◌else◌, min, List, ◌++◌, length, take, Option, Result, MatchResult, IfOk, OnErr}
+use Rattle.std.specs.Prelude.{◌≡◌, ℕ, ◌+◌, ◌-◌, ◌^◌, ◌<◌, ◌≤◌, ◌==◌, ◌&&◌, nat_lt, if◌then◌else◌, min}
+use Rattle.std.specs.Prelude.{List, ◌++◌, length, take, Option, Result, MatchResult, IfOk, OnErr}
 use Rattle.std.specs.Io.KnownBytes.{Appends}
 
 -- one more, up to the last value of a count
@@ -29,7 +30,9 @@ CountsFaults before now result = MatchResult result (λ _. now ≡ before) (λ _
 -- a count of stalls is raised at each 0 to a piece that isn't empty, and at nothing else
 abbrev pub CountsStalls : {E : Type 0} → ℕ → ℕ → Result ℕ E → List ℕ → Type 0
 CountsStalls before now result piece =
-    MatchResult result (λ n. now ≡ (if n == 0 && nat_lt 0 (length piece) then raised before else before)) (λ _. now ≡ before)
+    MatchResult result
+    (λ n. now ≡ (if n == 0 && nat_lt 0 (length piece) then raised before else before))
+    (λ _. now ≡ before)
 
 -- known bytes grow by a part of these that lacks at least one of them
 abbrev pub AppendsPart : Option (List ℕ) → Option (List ℕ) → List ℕ → Type 0

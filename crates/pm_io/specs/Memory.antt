@@ -27,19 +27,23 @@ in_source All = All
 in_source Fail = Fail
 in_source (Take n) = Take (max n 1)
 
+-- the bytes that a sink took, in order
 abbrev pub sink_bytes : MemSink → List ℕ
 sink_bytes m = m.bytes.items
 
+-- the cues that a sink's next puts follow
 abbrev pub sink_cues : MemSink → List Cue
 sink_cues m = cues_left m.script
 
+-- how many puts failed, at a cue or for want of memory, up to the last value of 64 bits
 abbrev pub sink_faults : MemSink → ℕ
 sink_faults m = m.faults
 
+-- how many puts took nothing of a piece that isn't empty, up to the last value of 64 bits
 abbrev pub sink_stalls : MemSink → ℕ
 sink_stalls m = m.stalls
 
--- how many puts found no memory
+-- how many puts found no memory, up to the last value of 64 bits
 abbrev pub sink_wants : MemSink → ℕ
 sink_wants m = m.wants
 
@@ -53,11 +57,14 @@ wants_after (Take n) wants = raised wants
 abbrev pub CountsWants : {E : Type 0} → Cue → ℕ → ℕ → Result ℕ E → Type 0
 CountsWants cue before now result = MatchResult result (λ _. now ≡ before) (λ _. now ≡ wants_after cue before)
 
+-- the bytes that no take has given yet
 abbrev pub source_bytes : MemSource → List ℕ
 source_bytes m = drop m.taken m.bytes.items
 
+-- the cues that a source's next takes follow
 abbrev pub source_cues : MemSource → List Cue
 source_cues m = cues_left m.script
 
+-- how many takes failed, up to the last value of 64 bits
 abbrev pub source_faults : MemSource → ℕ
 source_faults m = m.faults

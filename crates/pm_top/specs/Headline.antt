@@ -1,5 +1,6 @@
 -- What the program promises of a call.
-use Rattle.std.specs.Prelude.{◌≡◌, ◌≢◌, ◌↔◌, ℕ, ◌<◌, ◌≤◌, ◌⊎◌, List, length, Option, None, IfSome, IfOk, Ok, Err}
+use Rattle.std.specs.Prelude.{◌≡◌, ◌≢◌, ◌↔◌, ◌⊎◌, ℕ, ◌<◌, ◌≤◌}
+use Rattle.std.specs.Prelude.{List, length, Option, None, IfSome, IfOk, Ok, Err}
 use Rattle.std.specs.Io.KnownBytes.{Appends, IsAtEnd}
 use Rattle.pm_io.specs.Causes.{AppendsPart, AppendsPrefix, Rose}
 use Rattle.pm_plan.specs.declared.plan.Plan.{Plan}
@@ -33,7 +34,8 @@ pub record IsWithin (m : Mode) (budget : ℕ) (b : List ℕ) : Type 0 where
   pub scenario : IsAccepted b
   pub few : steps m scenario.plan ≤ budget
 
--- the input held a scenario of which the mode does at most as many steps as the budget, and out grew by its whole output
+-- the input held a scenario of which the mode does at most as many steps as the budget, and out grew by its whole
+-- output
 abbrev pub PrintsAll : Mode → ℕ → Option (List ℕ) → Option (List ℕ) → Option (List ℕ) → Type 0
 PrintsAll m budget held old new =
     IfSome held (λ b. (p : Plan) × (plan_of b ≡ Ok p) × (steps m p ≤ budget) × Appends old new (output m p))
@@ -42,12 +44,14 @@ PrintsAll m budget held old new =
 abbrev pub PrintsPrefix : Mode → Option (List ℕ) → Option (List ℕ) → Option (List ℕ) → Type 0
 PrintsPrefix m held old new = IfSome held (λ b. IfOk (plan_of b) (λ p. AppendsPrefix old new (output m p)))
 
--- the input held a scenario of which the mode does more steps than the budget, and out grew by the lines of its first steps
+-- the input held a scenario of which the mode does more steps than the budget, and out grew by the lines of as many
+-- steps as the budget
 abbrev pub PrintsSpent : Mode → ℕ → Option (List ℕ) → Option (List ℕ) → Option (List ℕ) → Type 0
 PrintsSpent m budget held old new =
     IfSome held (λ b. (p : Plan) × (plan_of b ≡ Ok p) × (budget < steps m p) × Appends old new (first_lines budget p))
 
--- where the input held a scenario of which the mode does more steps than the budget, out lacks a byte of the lines of its first steps
+-- where the input held a scenario of which the mode does more steps than the budget, out grew by a part of the lines
+-- of as many steps as the budget that lacks at least one byte
 abbrev pub LacksLines : Mode → ℕ → Option (List ℕ) → Option (List ℕ) → Option (List ℕ) → Type 0
 LacksLines m budget held old new =
     IfSome held (λ b. IfOk (plan_of b) (λ p. budget < steps m p → AppendsPart old new (first_lines budget p)))
@@ -86,7 +90,8 @@ pub record SourceSight : Type 0 where
   pub held : Option (List ℕ)
   pub faults : ℕ
 
--- a call: its mode, none where the words name none, how many steps it may do, how it ended, and its devices before and after
+-- a call: its mode, none where the words name none, how many steps it may do, how it ended, and its devices before
+-- and after
 pub record Call : Type 0 where
   pub mode : Option Mode
   pub budget : ℕ
@@ -110,7 +115,8 @@ pub record IsCaused (c : Call) : Type 0 where
   pub words : (c.ending ≡ ending.Words) ↔ (c.mode ≡ None)
   pub refused : (f : ScenarioFault) → c.ending ≡ ending.Refused f → IfSome c.input.held (IsRefused f)
   pub too_long : c.ending ≡ ending.TooLong → IfSome c.input.held IsTooLong × IsReadPast c.input.held c.input_after.held
-  pub accepted : (c.ending ≡ ending.Done) ⊎ ((c.ending ≡ ending.BudgetSpent) ⊎ (c.ending ≡ ending.WriteFault)) → IfSome c.input.held IsAccepted
+  pub accepted : (c.ending ≡ ending.Done) ⊎ ((c.ending ≡ ending.BudgetSpent) ⊎ (c.ending ≡ ending.WriteFault))
+      → IfSome c.input.held IsAccepted
   pub read : ReadsAll c.ending → IsAtEnd c.input_after.held
   pub read_fault : c.ending ≡ ending.ReadFault → Rose c.input.faults c.input_after.faults
   pub write_fault : c.ending ≡ ending.WriteFault → Fails c.out c.out_after
@@ -123,9 +129,11 @@ IsTold c = c.ending ≢ ending.Done → Offers c.err c.err_after (error_line c.e
 pub record IsComplete (c : Call) (m : Mode) : Type 0 where
   pub refuses : c.ending ≢ ending.ReadFault → c.ending ≢ ending.Memory
       → IfSome c.input.held (λ b. (f : ScenarioFault) → IsRefused f b → c.ending ≡ ending.Refused f)
-  pub limits : c.ending ≢ ending.ReadFault → c.ending ≢ ending.Memory → IfSome c.input.held (λ b. IsTooLong b → c.ending ≡ ending.TooLong)
+  pub limits : c.ending ≢ ending.ReadFault → c.ending ≢ ending.Memory
+      → IfSome c.input.held (λ b. IsTooLong b → c.ending ≡ ending.TooLong)
   pub completes : ¬ Rose c.input.faults c.input_after.faults → ¬ Fails c.out c.out_after
-      → IfSome c.input.held (λ b. IsAccepted b → (c.ending ≡ ending.Done) ⊎ ((c.ending ≡ ending.BudgetSpent) ⊎ (c.ending ≡ ending.Memory)))
+      → IfSome c.input.held (λ b. IsAccepted b
+      → (c.ending ≡ ending.Done) ⊎ ((c.ending ≡ ending.BudgetSpent) ⊎ (c.ending ≡ ending.Memory)))
   pub within : ¬ Rose c.input.faults c.input_after.faults → ¬ Fails c.out c.out_after
       → IfSome c.input.held (λ b. IsWithin m c.budget b → (c.ending ≡ ending.Done) ⊎ (c.ending ≡ ending.Memory))
 

@@ -8,6 +8,7 @@ pub record IsReadWhole (old new : Option (List ℕ)) (bytes : List ℕ) : Type 0
   pub end : IsAtEnd new
   pub few : length bytes ≤ 4194304
 
--- more bytes were taken than a scenario may have, but at most 65,536 more
+-- the bytes that were taken are more than the 4,194,304 that a scenario may have, by at most 65,536
 abbrev pub IsReadPast : Option (List ℕ) → Option (List ℕ) → Type 0
-IsReadPast old new = (bytes : List ℕ) × Consumes old new bytes × (4194304 < length bytes) × (length bytes ≤ 4194304 + 65536)
+IsReadPast old new =
+    (bytes : List ℕ) × Consumes old new bytes × (4194304 < length bytes) × (length bytes ≤ 4194304 + 65536)

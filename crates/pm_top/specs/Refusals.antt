@@ -13,9 +13,11 @@ use Rattle.pm_scenario.specs.declared.fault.ScenarioFault.TheVariants as fault
 abbrev pub shown_byte : ℕ → ℕ
 shown_byte b = if nat_lt b 32 || b == 127 then 63 else b
 
+-- a key as a line tells it, with no control character in it
 abbrev pub shown : List ℕ → List ℕ
 shown key = map shown_byte key
 
+-- the word for a kind of part; `time` is the limit of an agent's times
 abbrev pub kind_word : Kind → List ℕ
 kind_word kind.Clp = codes "clp"
 kind_word kind.Class = codes "class"
@@ -28,6 +30,7 @@ abbrev pub rule_text : ℕ → ℕ → List ℕ → List ℕ
 rule_text agent line reason =
     (codes "rule of agent " ++ decimal agent) ++ ((codes ": line " ++ decimal line) ++ (codes ": " ++ reason))
 
+-- what is said of the agent with this number, whose rule has this fault
 abbrev pub rule_reason : ℕ → RuleFault → List ℕ
 rule_reason agent (rule.Word line) = rule_text agent line (codes "not a statement\n")
 rule_reason agent (rule.Order line) = rule_text agent line (codes "out of order\n")
@@ -41,6 +44,7 @@ rule_reason agent rule.Memory = codes "out of memory\n"
 abbrev pub part_text : Kind → ℕ → List ℕ → List ℕ
 part_text k i reason = (kind_word k ++ codes " ") ++ (decimal i ++ (codes ": " ++ reason))
 
+-- what is said of parts that make no plan
 abbrev pub plan_reason : PlanFault → List ℕ
 plan_reason (plan.Limit k) = codes "limit of " ++ (kind_word k ++ codes "\n")
 plan_reason (plan.Name k i) = part_text k i (codes "not a name\n")
