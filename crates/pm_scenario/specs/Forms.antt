@@ -1,6 +1,8 @@
 -- How a table of a document is read by a list of its keys, or what it is refused for first.
 use Rattle.std.specs.Prelude.{◌≡◌, ℕ, ◌+◌, Bool, true, false, if◌then◌else◌, List, [], ◌∷◌, ◌++◌, Option, Some, None}
 use Rattle.std.specs.Prelude.{Result, Ok, Err, ℤ, pos, codes, decimal}
+use Rattle.std.specs.Ordering.{nat_cmp, is_lt}
+use Rattle.std.specs.Cmp.Lexicographic.{slice_cmp}
 use Rattle.std.specs.Str.{bytes_eq}
 use Rattle.std.specs.List.{list_any}
 use Rattle.toml.specs.Data.{Data, integer, array, table, Items, no_items, item, Members, no_members, member, get_member}
@@ -107,17 +109,26 @@ form ◃ field = record {
 abbrev pub is_listed : List (List ℕ) → List ℕ → Bool
 is_listed keys k = list_any (λ l. bytes_eq l k) keys
 
--- the first key that isn't listed: the keys of a table ascend by their bytes, so it is the least
-abbrev pub strange : List (List ℕ) → Members → Option (List ℕ)
-strange keys no_members = None
-strange keys (member k d ms) = if is_listed keys k then strange keys ms else Some k
+-- the lesser by its bytes of a key and another, where there is another
+abbrev pub lesser : Option (List ℕ) → List ℕ → List ℕ
+lesser None k = k
+lesser (Some l) k = if is_lt (slice_cmp nat_cmp k l) then k else l
 
--- the table is refused for the key that isn't listed, where there is one
+-- the least of the keys that aren't listed and of another, where there is another
+abbrev pub least_of : List (List ℕ) → Option (List ℕ) → Members → Option (List ℕ)
+least_of keys other no_members = other
+least_of keys other (member k d ms) = least_of keys (if is_listed keys k then other else Some (lesser other k)) ms
+
+-- the least, by its bytes, of the keys that aren't listed, where there are such
+abbrev pub strange : List (List ℕ) → Members → Option (List ℕ)
+strange keys ms = least_of keys None ms
+
+-- the table is refused for this key, which isn't listed, where there is such a key
 abbrev pub refuse_strange : Path → Option (List ℕ) → Result (Unit {0}) ScenarioFault
 refuse_strange prefix None = Ok tt
 refuse_strange prefix (Some k) = Err (fault.Strange (prefix ++ k))
 
--- each key of the table is listed, or the one that is told is named by its path
+-- each key of the table is listed, or the least that isn't is named by its path
 unfoldable pub no_strange : Path → List (List ℕ) → Members → Result (Unit {0}) ScenarioFault
 no_strange prefix keys ms = refuse_strange prefix (strange keys ms)
 

@@ -10,6 +10,6 @@ abbrev pub keys_of : Members → List (List ℕ)
 keys_of no_members = []
 keys_of (member k d ms) = k ∷ keys_of ms
 
--- the key l is listed, or it is k, or it comes after k by its bytes
+-- the key l is listed, or it is k, or it comes after k by its bytes: l is no lesser key that isn't listed
 abbrev pub IsListedOrAfter : List (List ℕ) → List ℕ → List ℕ → Type 0
 IsListedOrAfter keys k l = (is_listed keys l ≡ true) ⊎ ((l ≡ k) ⊎ (is_lt (slice_cmp nat_cmp k l) ≡ true))

@@ -1,7 +1,7 @@
 ghost use Rattle.std.specs.Prelude.{◌≡◌, ◌++◌, option_map, map, Some, None};
 ghost use Rattle.toml.specs.Data.{get_member};
 ghost use Rattle.toml.specs.View.{table_view, view};
-ghost use Rattle.pm_scenario.specs.Forms.{Gives, is_listed, strange, no_strange, field_at, required, default};
+ghost use Rattle.pm_scenario.specs.Forms.{Gives, is_listed, lesser, strange, no_strange, field_at, required, default};
 ghost use Rattle.pm_scenario.specs.Forms.{text, number, as_count, count, optional};
 ghost use Rattle.pm_scenario.specs.Places.{prefix_of};
 
@@ -22,16 +22,27 @@ fn is_listed(keys: &[&str], key: &str) -> bool
     false
 }
 
-/// The least key that isn't listed.
+/// The lesser of a key and another by their bytes, where there is another.
+fn lesser<'a>(other: Option<&'a str>, key: &'a str) -> &'a str
+    ensures { result.now ≡ lesser (option_map (λ s. s.now) other.entry) key.now }
+{
+    let Some(other) = other else {
+        return key;
+    };
+    if key < other { key } else { other }
+}
+
+/// The least key, by its bytes, that isn't listed.
 fn strange<'a>(keys: &[&str], table: &'a Table) -> Option<&'a str>
     ensures { option_map (λ s. s.now) result ≡ strange (map (λ s. s.now) keys.now) (table_view table.now) }
 {
+    let mut least = None;
     for (key, _) in table.iter() {
         if !is_listed(keys, key.as_str()) {
-            return Some(key.as_str());
+            least = Some(lesser(least, key.as_str()));
         }
     }
-    None
+    least
 }
 
 /// Refuses a table that has other keys than these.

@@ -1,6 +1,6 @@
-ghost use Rattle.std.specs.Prelude.{◌≡◌, ℕ, List, Some, Ok, Err, true, false, codes};
-ghost use Rattle.std.specs.List.{AllByRecursion};
-ghost use Rattle.toml.specs.Data.{Members, members_are_sorted};
+ghost use Rattle.std.specs.Prelude.{◌≡◌, ℕ, List, Some, None, Ok, Err, true, false, codes};
+ghost use Rattle.std.specs.List.{AllByRecursion, Contains};
+ghost use Rattle.toml.specs.Data.{Members};
 ghost use Rattle.pm_scenario.specs.Forms.{is_listed, strange};
 ghost use Rattle.pm_scenario.specs.Samples.{worked_scenario, worked_plan, later_version, two_strange_keys};
 ghost use Rattle.pm_scenario.specs.Samples.{table_and_number, empty_table_and_number, number_as_text};
@@ -22,11 +22,15 @@ pub fn worked_texts()
     some_texts();
 }
 
-/// A key that is told as strange isn't listed, and is the least of those that aren't: in a table whose keys ascend each
-/// key is listed, or is this one, or comes after it.
+/// A key that is told as strange is one of the table's and isn't listed, and is the least of those that aren't: each key
+/// is listed, or is this one, or comes after it by its bytes. Where none is told all are listed.
 pub fn strange_keys_are_least()
+    ensures own { (keys : List (List ℕ)) (table : Members) (k : List ℕ) →
+        strange keys table ≡ Some k → Contains (keys_of table) k }
     ensures unlisted { (keys : List (List ℕ)) (table : Members) (k : List ℕ) →
         strange keys table ≡ Some k → is_listed keys k ≡ false }
-    ensures least { (keys : List (List ℕ)) (table : Members) (k : List ℕ) → members_are_sorted table ≡ true →
+    ensures least { (keys : List (List ℕ)) (table : Members) (k : List ℕ) →
         strange keys table ≡ Some k → AllByRecursion (IsListedOrAfter keys k) (keys_of table) }
+    ensures none { (keys : List (List ℕ)) (table : Members) →
+        strange keys table ≡ None → AllByRecursion (λ l. is_listed keys l ≡ true) (keys_of table) }
 {}
