@@ -2,7 +2,7 @@
 use Rattle.std.proofs.Common.{◌≡◌, ◌∙◌, ap, refl, sym, arith, inl, inr, ℕ, ◌+◌, Bool, true, false, List, [], ◌∷◌, ◌++◌, length, Result, Ok, Err}
 use Rattle.pm_base.specs.declared.program.Program.{Program}
 use Rattle.pm_rules.specs.Grammar.{IsFirstFault}
-use Rattle.pm_rules.specs.Lines.{lines_of}
+use Rattle.pm_tokens.specs.Lines.{lines_of}
 use Rattle.pm_rules.specs.Reading.{Table}
 use Rattle.pm_rules.specs.Rules.{after_line, after_lines, empty, finished, go_on, is_empty, parsed}
 use Rattle.pm_rules.specs.declared.draft.Draft.{Draft}

@@ -17,7 +17,7 @@ use Rattle.pm_rules.specs.Reading.{Scope, Table, class_rows}
 use Rattle.pm_rules.specs.Rules.{is_empty, scope_of, with_said}
 use Rattle.pm_rules.specs.Sayable.{does_sayable, known_in}
 use Rattle.pm_rules.specs.Spelling.{else_said, says, says_all, spell_does}
-use Rattle.pm_rules.specs.Tokens.{Tok}
+use Rattle.pm_tokens.specs.Tokens.{Tok}
 use Rattle.pm_rules.specs.declared.draft.Draft.{Draft}
 use Rattle.pm_rules.specs.declared.draft.Frame.{Frame}
 use Rattle.pm_rules.specs.declared.said.Said.{Said}

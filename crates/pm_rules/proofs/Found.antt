@@ -9,13 +9,13 @@ use Rattle.pm_base.specs.declared.program.Field.{Field}
 use Rattle.pm_base.specs.declared.program.Field.TheVariants as field
 use Rattle.pm_base.specs.declared.program.Op.{Op}
 use Rattle.pm_base.specs.declared.program.Op.TheVariants as op
-use Rattle.pm_rules.specs.Answers.{◌>>=◌}
+use Rattle.pm_tokens.specs.Answers.{◌>>=◌}
 use Rattle.pm_rules.specs.Reading.{after, field_at, field_named, in_u32, is_assign, is_close, is_comma, is_dot, is_left, is_open, is_right, known_or_zero, name_at, number_from, number_in, number_of, operator, operator_by, operator_named}
 use Rattle.pm_rules.specs.Spelling.{field_word, op_token}
 use Rattle.pm_rules.specs.Statements.{assigned, declared, is_free, number_at, whole}
-use Rattle.pm_rules.specs.Tokens.{Tok, name, number, symbol}
-use Rattle.pm_rules.specs.declared.token.Symbol.{Symbol}
-use Rattle.pm_rules.specs.declared.token.Symbol.TheVariants as symbols
+use Rattle.pm_tokens.specs.Tokens.{Tok, name, number, symbol}
+use Rattle.pm_tokens.specs.declared.token.Symbol.{Symbol}
+use Rattle.pm_tokens.specs.declared.token.Symbol.TheVariants as symbols
 
 pub bind_ok : {A B : Type 0} (o : Option A) (f : A → Option B) (y : B) → (o >>= f) ≡ Some y →
     (x : A) × (o ≡ Some x) × (f x ≡ Some y)

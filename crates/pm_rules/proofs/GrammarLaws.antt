@@ -8,13 +8,13 @@ use Rattle.pm_base.specs.Fits.{fits}
 use Rattle.pm_base.specs.Layouts.{var_count}
 use Rattle.pm_base.specs.declared.program.Program.{Program}
 use Rattle.pm_rules.specs.Grammar.{IsRule, IsShort, IsTable, Row, drops_else, or_none, rows_from, without_idle_else}
-use Rattle.pm_rules.specs.Lexing.{lex}
-use Rattle.pm_rules.specs.Lines.{lines_of, code}
+use Rattle.pm_tokens.specs.Lexing.{lex}
+use Rattle.pm_tokens.specs.Lines.{lines_of, code}
 use Rattle.pm_rules.specs.Nesting.{AreFine, all_said, draft_of, draft_says}
 use Rattle.pm_rules.specs.Reading.{Table, class_rows}
 use Rattle.pm_rules.specs.Rules.{after_lines, empty, finished, go_on, is_empty, parsed, scope_of}
 use Rattle.pm_rules.specs.Spelling.{program_says, program_scope, spell_said}
-use Rattle.pm_rules.specs.Tokens.{Tok}
+use Rattle.pm_tokens.specs.Tokens.{Tok}
 use Rattle.pm_rules.specs.declared.draft.Draft.{Draft}
 use Rattle.pm_rules.specs.declared.fault.RuleFault.{RuleFault}
 use Rattle.pm_rules.specs.declared.fault.RuleFault.TheVariants as fault

@@ -11,10 +11,10 @@ use Rattle.pm_rules.specs.Reading.{Scope, after, class_names, class_rows, is_dot
 use Rattle.pm_rules.specs.Sayable.{IsScope, does_sayable, is_sayable, known_in}
 use Rattle.pm_rules.specs.Spelling.{spell, spell_does, spell_place, spell_said, spell_sense}
 use Rattle.pm_rules.specs.Statements.{add_line, after_word, assigned, change, declared, if_line, is_free, let_line, number_at, only, read_line, reg_line, scan_line, set_line, statement, two, wait_line, window}
-use Rattle.pm_rules.specs.Tokens.{Tok, symbol}
+use Rattle.pm_tokens.specs.Tokens.{Tok, symbol}
 use Rattle.pm_rules.specs.declared.said.Said.{Said}
 use Rattle.pm_rules.specs.declared.said.Said.TheVariants as said
-use Rattle.pm_rules.specs.declared.token.Symbol.TheVariants as symbols
+use Rattle.pm_tokens.specs.declared.token.Symbol.TheVariants as symbols
 use Rattle.pm_rules.proofs.KnownParts.{add_parts, below, both, change_parts, if_unsayable, let_parts, scan_parts}
 use Rattle.pm_rules.proofs.ReadAgain.{begins_alone_without_dot, begins_without_dot, expression_alone, expression_read, number_again, place_alone, place_read, same_length}
 use Rattle.pm_rules.proofs.SpellingCounts.{change_counted, expression_counted, sense_counted}

@@ -13,10 +13,10 @@ use Rattle.pm_rules.specs.Reading.{Found, Scope, after, class_names, class_rows,
 use Rattle.pm_rules.specs.Sayable.{is_sayable, known_in}
 use Rattle.pm_rules.specs.Spelling.{spell, spell_change, spell_place, spell_said, spell_sense}
 use Rattle.pm_rules.specs.Statements.{Change, Read, add_line, after_word, assigned, change, declared, if_line, is_free, let_line, number_at, only, read_line, reg_line, scan_line, set_line, statement, two, wait_line, whole, window}
-use Rattle.pm_rules.specs.Tokens.{Tok, name, number, symbol}
+use Rattle.pm_tokens.specs.Tokens.{Tok, name, number, symbol}
 use Rattle.pm_rules.specs.declared.said.Said.{Said}
 use Rattle.pm_rules.specs.declared.said.Said.TheVariants as said
-use Rattle.pm_rules.specs.declared.token.Symbol.TheVariants as symbols
+use Rattle.pm_tokens.specs.declared.token.Symbol.TheVariants as symbols
 use Rattle.pm_rules.proofs.Found.{IsNumberIn, assign_found, assigned_found, bind_ok, branch, comma_found, declared_found, name_found, none, number_found, number_in_found, same_text, whole_found}
 use Rattle.pm_rules.proofs.KnownParts.{both}
 use Rattle.pm_rules.proofs.ReadAgain.{same_length}

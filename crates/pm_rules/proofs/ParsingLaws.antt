@@ -4,7 +4,7 @@ use Rattle.std.proofs.lemmas.Bool.Decides.{nat_tests}
 use Rattle.pm_rules.specs.Reading.{Table}
 use Rattle.pm_rules.specs.Rules.{after_read, after_tokens, scope_of}
 use Rattle.pm_rules.specs.Statements.{statement}
-use Rattle.pm_rules.specs.Tokens.{Tok}
+use Rattle.pm_tokens.specs.Tokens.{Tok}
 use Rattle.pm_rules.specs.declared.draft.Draft.{Draft}
 
 not_past : (most n : ℕ) → n ≤ most → nat_lt most n ≡ false

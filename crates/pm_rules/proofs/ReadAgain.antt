@@ -21,8 +21,8 @@ use Rattle.pm_rules.specs.Reading.{Scope, Table, after, class_names, class_rows,
 use Rattle.pm_rules.specs.Sayable.{IsScope, known_in}
 use Rattle.pm_rules.specs.Spelling.{field_word, op_token, spell, spell_place}
 use Rattle.pm_rules.specs.Statements.{is_free}
-use Rattle.pm_rules.specs.Tokens.{Tok, name, symbol}
-use Rattle.pm_rules.specs.declared.token.Symbol.TheVariants as symbols
+use Rattle.pm_tokens.specs.Tokens.{Tok, name, symbol}
+use Rattle.pm_tokens.specs.declared.token.Symbol.TheVariants as symbols
 use Rattle.pm_rules.proofs.KnownParts.{below, bin_parts, both, member_parts}
 use Rattle.pm_rules.proofs.SpellingEquations.{spell-Num, spell-Now, spell-Me, spell-Reg, spell-Part, spell-Bin, known-Reg, known-Part, tokens-Num, tokens-Now, tokens-Me, tokens-Reg, tokens-Part, tokens-Bin}
 use Rattle.pm_rules.proofs.Variants.{every_expression}

@@ -5,13 +5,13 @@ use Rattle.std.specs.Prelude.{not, ◌&&◌, ◌||◌, if◌then◌else◌}
 use Rattle.std.proofs.lemmas.Bool.Decides.{nat_tests}
 use Rattle.std.proofs.lemmas.Option.{same_Some}
 use Rattle.pm_rules.specs.Grammar.{IsShort, Row, rows_from, with_row}
-use Rattle.pm_rules.specs.Lexing.{lex}
-use Rattle.pm_rules.specs.Lines.{code}
+use Rattle.pm_tokens.specs.Lexing.{lex}
+use Rattle.pm_tokens.specs.Lines.{code}
 use Rattle.pm_rules.specs.Nesting.{AreRead, after_rows, all_said, are_taken, is_taken}
 use Rattle.pm_rules.specs.Reading.{Table}
 use Rattle.pm_rules.specs.Rules.{after_line, after_lines, after_read, after_tokens, fault_of, first_of, go_on, is_one_too_many, is_out_of_order, is_twice, is_unmatched, or_draft, scope_of, with_said}
 use Rattle.pm_rules.specs.Statements.{Read, statement}
-use Rattle.pm_rules.specs.Tokens.{Tok}
+use Rattle.pm_tokens.specs.Tokens.{Tok}
 use Rattle.pm_rules.specs.declared.draft.Draft.{Draft}
 use Rattle.pm_rules.specs.declared.fault.RuleFault.{RuleFault}
 use Rattle.pm_rules.specs.declared.fault.RuleFault.TheVariants as fault

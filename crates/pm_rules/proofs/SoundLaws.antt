@@ -17,7 +17,7 @@ use Rattle.pm_rules.specs.Rules.{ended, is_begun, is_empty, last_frame, scope_of
 use Rattle.pm_rules.specs.Sayable.{IsScope, does_sayable, extended, is_sayable}
 use Rattle.pm_rules.specs.Spelling.{says, spell_said}
 use Rattle.pm_rules.specs.Statements.{is_free, statement}
-use Rattle.pm_rules.specs.Tokens.{Tok}
+use Rattle.pm_tokens.specs.Tokens.{Tok}
 use Rattle.pm_rules.specs.declared.draft.Draft.{Draft}
 use Rattle.pm_rules.specs.declared.draft.Frame.{Frame}
 use Rattle.pm_rules.specs.declared.said.Said.{Said}

@@ -10,8 +10,8 @@ use Rattle.pm_base.specs.declared.program.Sense.{Sense}
 use Rattle.pm_base.specs.declared.program.Sense.TheVariants as sense
 use Rattle.pm_rules.specs.Reading.{Scope}
 use Rattle.pm_rules.specs.Spelling.{op_token, spell, spell_change, spell_place, spell_sense}
-use Rattle.pm_rules.specs.Tokens.{Tok, symbol}
-use Rattle.pm_rules.specs.declared.token.Symbol.TheVariants as symbols
+use Rattle.pm_tokens.specs.Tokens.{Tok, symbol}
+use Rattle.pm_tokens.specs.declared.token.Symbol.TheVariants as symbols
 use Rattle.pm_rules.proofs.SpellingEquations.{spell-Num, spell-Now, spell-Me, spell-Reg, spell-Part, spell-Bin, tokens-Num, tokens-Now, tokens-Me, tokens-Reg, tokens-Part, tokens-Bin}
 use Rattle.pm_rules.proofs.Variants.{every_expression}
 

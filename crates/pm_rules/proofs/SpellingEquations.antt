@@ -13,8 +13,8 @@ use Rattle.pm_base.specs.declared.program.Stmt.TheVariants.{Let, If, Set, Add, W
 use Rattle.pm_rules.specs.Reading.{Scope, class_rows}
 use Rattle.pm_rules.specs.Sayable.{known_in, does_sayable}
 use Rattle.pm_rules.specs.Spelling.{field_word, name_in, op_token, spell, spell_change, spell_does}
-use Rattle.pm_rules.specs.Tokens.{name, number, symbol}
-use Rattle.pm_rules.specs.declared.token.Symbol.TheVariants as symbols
+use Rattle.pm_tokens.specs.Tokens.{name, number, symbol}
+use Rattle.pm_tokens.specs.declared.token.Symbol.TheVariants as symbols
 
 pub spell-Num : (sc : Scope) (z : ℤ) → spell sc (Num z) ≡ number z ∷ []
 spell-Num sc z = search (rules, the_lemmas)

@@ -4,7 +4,7 @@ use Rattle.pm_base.specs.declared.program.Expr.{Expr}
 use Rattle.pm_base.specs.declared.program.Place.{Place}
 use Rattle.pm_rules.specs.Reading.{Found, Scope, after, expr, is_assign, is_comma, place}
 use Rattle.pm_rules.specs.Statements.{change, whole}
-use Rattle.pm_rules.specs.Tokens.{Tok}
+use Rattle.pm_tokens.specs.Tokens.{Tok}
 
 whole-more : {A : Type 0} (a : A) (ts : List Tok) → 0 < length ts → whole a ts ≡ None
 whole-more a [] more = absurd (omega arith)

@@ -14,8 +14,8 @@ use Rattle.pm_base.specs.declared.program.Place.TheVariants.{Member}
 use Rattle.pm_rules.specs.Reading.{Found, Scope, after, bracketed, class_names, class_rows, closed, dotted, expr, expression, field_at, has_members, indexed, is_close, is_dot, is_left, is_open, is_right, joined, member_at, name_at, named, number_in, operator, part, place, register, variable}
 use Rattle.pm_rules.specs.Sayable.{known_in}
 use Rattle.pm_rules.specs.Spelling.{field_word, op_token, spell, spell_place}
-use Rattle.pm_rules.specs.Tokens.{Tok, name, number, symbol}
-use Rattle.pm_rules.specs.declared.token.Symbol.TheVariants as symbols
+use Rattle.pm_tokens.specs.Tokens.{Tok, name, number, symbol}
+use Rattle.pm_tokens.specs.declared.token.Symbol.TheVariants as symbols
 use Rattle.pm_rules.proofs.Found.{IsNumberIn, bind_ok, branch, close_found, dot_found, field_found, left_found, name_found, none, number_in_found, only_open, operator_found, right_found, same_text}
 use Rattle.pm_rules.proofs.KnownParts.{both}
 use Rattle.pm_rules.proofs.ReadAgain.{regroup}

@@ -7,12 +7,12 @@ use Rattle.pm_base.specs.declared.program.Program.{Program}
 use Rattle.pm_base.specs.declared.program.Stmt.{Stmt}
 use Rattle.pm_base.specs.declared.program.Stmt.TheFolds.{fold-Stmt}
 use Rattle.pm_base.specs.declared.program.Stmt.TheOpen.{Stmt-F}
-use Rattle.pm_rules.specs.Lexing.{lex}
-use Rattle.pm_rules.specs.Lines.{lines_of, code}
+use Rattle.pm_tokens.specs.Lexing.{lex}
+use Rattle.pm_tokens.specs.Lines.{lines_of, code}
 use Rattle.pm_rules.specs.Reading.{Table, class_names, class_rows, number_of}
 use Rattle.pm_rules.specs.Rules.{after_line, after_lines, empty, is_empty}
 use Rattle.pm_rules.specs.Spelling.{program_says, program_scope, spell_said}
-use Rattle.pm_rules.specs.Tokens.{Tok}
+use Rattle.pm_tokens.specs.Tokens.{Tok}
 use Rattle.pm_rules.specs.declared.draft.Draft.{Draft}
 use Rattle.pm_rules.specs.declared.fault.RuleFault.{RuleFault}
 use Rattle.pm_rules.specs.declared.fault.RuleFault.TheVariants as fault

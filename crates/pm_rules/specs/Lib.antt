@@ -1,8 +1,5 @@
-pub mod Answers
+pub mod Faults
 pub mod Directories
-pub mod Tokens
-pub mod Lexing
-pub mod Lines
 pub mod Reading
 pub mod Statements
 pub mod Rules
@@ -11,5 +8,4 @@ pub mod Spelling
 pub mod Grammar
 pub mod Nesting
 pub mod Sayable
-pub mod Printing
 pub mod Samples

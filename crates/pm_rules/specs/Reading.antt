@@ -12,10 +12,10 @@ use Rattle.pm_base.specs.declared.program.Op.{Op}
 use Rattle.pm_base.specs.declared.program.Op.TheVariants as op
 use Rattle.pm_base.specs.declared.program.Place.{Place}
 use Rattle.pm_base.specs.declared.program.Place.TheVariants.{Var, Member}
-use Rattle.pm_rules.specs.Answers.{◌>>=◌}
-use Rattle.pm_rules.specs.Tokens.{Tok, name, number, symbol}
-use Rattle.pm_rules.specs.declared.token.Symbol.{Symbol}
-use Rattle.pm_rules.specs.declared.token.Symbol.TheVariants as sym
+use Rattle.pm_tokens.specs.Answers.{◌>>=◌}
+use Rattle.pm_tokens.specs.Tokens.{Tok, name, number, symbol}
+use Rattle.pm_tokens.specs.declared.token.Symbol.{Symbol}
+use Rattle.pm_tokens.specs.declared.token.Symbol.TheVariants as sym
 
 -- what the names of a scenario stand for: its classes in order, and its variables in order
 pub record Table : Type 0 where

@@ -5,11 +5,11 @@ use Rattle.pm_base.specs.declared.program.Expr.{Expr}
 use Rattle.pm_base.specs.declared.program.Program.{Program}
 use Rattle.pm_base.specs.declared.program.Stmt.{Stmt}
 use Rattle.pm_base.specs.declared.program.Stmt.TheVariants as stmt
-use Rattle.pm_rules.specs.Lexing.{lex}
-use Rattle.pm_rules.specs.Lines.{lines_of, code}
+use Rattle.pm_tokens.specs.Lexing.{lex}
+use Rattle.pm_tokens.specs.Lines.{lines_of, code}
 use Rattle.pm_rules.specs.Reading.{Scope, Table}
 use Rattle.pm_rules.specs.Statements.{Read, statement}
-use Rattle.pm_rules.specs.Tokens.{Tok}
+use Rattle.pm_tokens.specs.Tokens.{Tok}
 use Rattle.pm_rules.specs.declared.draft.Draft.{Draft}
 use Rattle.pm_rules.specs.declared.draft.Frame.{Frame}
 use Rattle.pm_rules.specs.declared.fault.RuleFault.{RuleFault}

@@ -22,11 +22,11 @@ use Rattle.pm_base.specs.declared.program.Stmt.TheFolds.{fold-Stmt}
 use Rattle.pm_base.specs.declared.program.Stmt.TheOpen.{Stmt-F}
 use Rattle.pm_base.specs.declared.program.Stmt.TheVariants as stmt
 use Rattle.pm_rules.specs.Reading.{Scope, Table, class_names}
-use Rattle.pm_rules.specs.Tokens.{Tok, name, number, symbol}
+use Rattle.pm_tokens.specs.Tokens.{Tok, name, number, symbol}
 use Rattle.pm_rules.specs.declared.said.Said.{Said}
 use Rattle.pm_rules.specs.declared.said.Said.TheVariants as said
-use Rattle.pm_rules.specs.declared.token.Symbol.{Symbol}
-use Rattle.pm_rules.specs.declared.token.Symbol.TheVariants as sym
+use Rattle.pm_tokens.specs.declared.token.Symbol.{Symbol}
+use Rattle.pm_tokens.specs.declared.token.Symbol.TheVariants as sym
 
 abbrev pub op_token : Op → Tok
 op_token op.Add = symbol sym.Plus

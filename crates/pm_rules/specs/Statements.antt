@@ -7,9 +7,9 @@ use Rattle.pm_base.specs.declared.program.Place.{Place}
 use Rattle.pm_base.specs.declared.program.Sense.{Sense}
 use Rattle.pm_base.specs.declared.program.Sense.TheVariants as sense
 use Rattle.pm_base.specs.declared.program.Stmt.TheVariants as stmt
-use Rattle.pm_rules.specs.Answers.{◌>>=◌}
+use Rattle.pm_tokens.specs.Answers.{◌>>=◌}
 use Rattle.pm_rules.specs.Reading.{Found, Scope, after, class_names, expr, is_assign, is_comma, name_at, number_in, place}
-use Rattle.pm_rules.specs.Tokens.{Tok, name, number, symbol}
+use Rattle.pm_tokens.specs.Tokens.{Tok, name, number, symbol}
 use Rattle.pm_rules.specs.declared.said.Said.{Said}
 use Rattle.pm_rules.specs.declared.said.Said.TheVariants as said
 

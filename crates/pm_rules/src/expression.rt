@@ -2,16 +2,14 @@ ghost use Rattle.std.specs.Prelude.{◌≡◌, IfOk, option_map, Some, None, map
 ghost use Rattle.std.specs.Str.{bytes_eq};
 ghost use Rattle.pm_base.specs.Fits.{reg_names, sense_names};
 ghost use Rattle.pm_base.specs.Names.{is_reserved};
-ghost use Rattle.pm_rules.specs.Answers.{Gives};
+ghost use Rattle.pm_tokens.specs.Answers.{Gives};
 ghost use Rattle.pm_rules.specs.Reading.{after, is_close, is_dot, operator_by, operator_named, operator, field_named, field_at, known_or_zero, number_of, number_from, number_in, part, register, named, joined, closed, expression, expr};
 ghost use Rattle.pm_rules.specs.Scopes.{scope_in};
-ghost use Rattle.pm_rules.specs.Tokens.{toks};
+ghost use Rattle.pm_tokens.specs.Tokens.{toks};
 
-use crate::lexing::name_of;
 use crate::names::Names;
-use crate::stop::Stop;
-use crate::token::{Symbol, Token};
 use pm_base::{Boxed, Expr, Field, Memory, Op, RegRow, SenseRow};
+use pm_tokens::{Stop, Symbol, Token, name_of};
 use std::alloc::Global;
 
 /// What a line may use: the names of the scenario, and the registers and senses of the lines before it.

@@ -1,24 +1,21 @@
 ghost use Rattle.std.specs.Prelude.{◌≡◌, true, ◌≢◌, ◌<◌, ◌+◌, ◌^◌, Ok, Err, IfOk, IfErr, Some, length, map};
 ghost use Rattle.pm_base.specs.Fits.{fits};
 ghost use Rattle.pm_base.specs.Layouts.{var_count};
-ghost use Rattle.pm_rules.specs.Answers.{Reads};
+ghost use Rattle.pm_rules.specs.Faults.{Reads};
 ghost use Rattle.pm_rules.specs.Reading.{class_rows};
-ghost use Rattle.pm_rules.specs.Lines.{lines_of};
+ghost use Rattle.pm_tokens.specs.Lines.{lines_of};
 ghost use Rattle.pm_rules.specs.Rules.{empty, after_read, after_tokens, after_line, after_lines, finished, parsed};
-ghost use Rattle.pm_rules.specs.Tokens.{toks};
+ghost use Rattle.pm_tokens.specs.Tokens.{toks};
 ghost use Rattle.pm_rules.specs.declared.fault.RuleFault.TheVariants as fault;
 
 use crate::draft::{Draft, empty, fault_of, is_empty, with_said};
 use crate::expression::Lent;
 use crate::fault::RuleFault;
-use crate::lexing::lex;
-use crate::lines::{code, lines_of};
 use crate::names::Names;
 use crate::said::Said;
 use crate::statements::statement;
-use crate::stop::Stop;
-use crate::token::Token;
 use pm_base::Program;
+use pm_tokens::{Stop, Token, code, lex, lines_of};
 use std::alloc::Global;
 
 /// After a statement, which says whether all the names that it uses are known.

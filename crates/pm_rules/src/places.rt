@@ -1,13 +1,12 @@
 ghost use Rattle.std.specs.Prelude.{◌≡◌, option_map};
-ghost use Rattle.pm_rules.specs.Answers.{Gives};
+ghost use Rattle.pm_tokens.specs.Answers.{Gives};
 ghost use Rattle.pm_rules.specs.Reading.{after, is_left, is_right, name_at, variable, indexed, place};
 ghost use Rattle.pm_rules.specs.Scopes.{scope_in};
-ghost use Rattle.pm_rules.specs.Tokens.{toks};
+ghost use Rattle.pm_tokens.specs.Tokens.{toks};
 
 use crate::expression::{Found, Lent, expr};
-use crate::stop::Stop;
-use crate::token::{Symbol, Token};
 use pm_base::Place;
+use pm_tokens::{Stop, Symbol, Token};
 use std::alloc::Global;
 
 #[tactic(auto, unfolding(crate::specs::Reading::after))]

@@ -9,7 +9,7 @@ ghost use Rattle.pm_rules.specs.Reading.{Scope, after, class_rows, expression, i
 ghost use Rattle.pm_rules.specs.Sayable.{IsScope, extended, is_sayable, known_in};
 ghost use Rattle.pm_rules.specs.Spelling.{spell, spell_change, spell_place, spell_said, spell_sense};
 ghost use Rattle.pm_rules.specs.Statements.{statement};
-ghost use Rattle.pm_rules.specs.Tokens.{Tok};
+ghost use Rattle.pm_tokens.specs.Tokens.{Tok};
 ghost use Rattle.pm_rules.specs.declared.said.Said.{Said};
 
 /// What is spelled is read, where the names are distinct within their kind and those of registers and senses may be

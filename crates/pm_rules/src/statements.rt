@@ -1,17 +1,15 @@
 ghost use Rattle.std.specs.Prelude.{◌≡◌, option_map, true};
-ghost use Rattle.pm_rules.specs.Answers.{Gives};
+ghost use Rattle.pm_tokens.specs.Answers.{Gives};
 ghost use Rattle.pm_rules.specs.Reading.{after, is_assign, is_comma};
 ghost use Rattle.pm_rules.specs.Scopes.{scope_in};
 ghost use Rattle.pm_rules.specs.Statements.{number_at, declared, assigned, reg_line, read_line, two, window, scan_line, let_line, change, set_line, add_line, only, wait_line, if_line, whole, after_word, statement};
-ghost use Rattle.pm_rules.specs.Tokens.{toks};
+ghost use Rattle.pm_tokens.specs.Tokens.{toks};
 
 use crate::expression::{Found, Lent, expr, reg_in, same};
-use crate::lexing::name_of;
 use crate::places::{name_at, place};
 use crate::said::Said;
-use crate::stop::Stop;
-use crate::token::{Symbol, Token};
 use pm_base::{Expr, Name, Place, Sense, Stmt, is_reserved};
+use pm_tokens::{Stop, Symbol, Token, name_of};
 use std::alloc::Global;
 
 #[tactic(auto, unfolding(crate::specs::Reading::after))]

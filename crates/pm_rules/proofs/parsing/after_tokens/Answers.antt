@@ -1,9 +1,9 @@
 use Rattle.std.proofs.Common.{rules, ◌≡◌, ◌<◌, ◌∙◌, ap, sym, subst, arith, length, Some}
 use Rattle.std.proofs.lemmas.List.{length-map}
-use Rattle.pm_rules.specs.Answers.{Reads}
+use Rattle.pm_rules.specs.Faults.{Reads}
 use Rattle.pm_rules.specs.Rules.{after_read, scope_of}
 use Rattle.pm_rules.specs.Statements.{statement}
-use Rattle.pm_rules.specs.Tokens.{tok, toks}
+use Rattle.pm_tokens.specs.Tokens.{tok, toks}
 use Rattle.pm_rules.proofs.ParsingLaws.{after_tokens-read}
 use Rattle.pm_rules.proofs.parsing.after_tokens.Goals as goal
 

@@ -1,6 +1,6 @@
 use Rattle.std.proofs.Common.{rules, ◌<◌, arith, length}
 use Rattle.std.proofs.lemmas.List.{length-map}
-use Rattle.pm_rules.specs.Tokens.{tok}
+use Rattle.pm_tokens.specs.Tokens.{tok}
 use Rattle.pm_rules.proofs.StatementLaws.{change-more}
 use Rattle.pm_rules.proofs.statements.change.Goals as goal
 

@@ -1,0 +1,9 @@
+pub mod PrintedLaws
+pub mod PrintingBodies
+pub mod PrintingDigits
+pub mod PrintingLines
+pub mod PrintingNames
+pub mod PrintingRows
+pub mod PrintingTokens
+pub mod PrintingTrees
+pub mod PrintingWorked

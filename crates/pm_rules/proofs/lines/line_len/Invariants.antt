@@ -1,6 +1,0 @@
-use Rattle.std.proofs.Common.{◌≡◌, ◌+◌, drop}
-use Rattle.pm_rules.specs.Lines.{line_len}
-use Rattle.pm_rules.proofs.lines.line_len.Given as goal
-
-abbrev pub invariant-loop-i : goal.invariant-loop-i
-invariant-loop-i l = line_len l.text ≡ line_len (drop l.i l.text) + l.i

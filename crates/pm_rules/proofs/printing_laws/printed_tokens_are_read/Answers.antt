@@ -1,8 +1,0 @@
-use Rattle.pm_rules.proofs.PrintingLines.{code-line_text, one_line-line_text}
-use Rattle.pm_rules.proofs.PrintingTokens.{lex-line_text}
-use Rattle.pm_rules.proofs.PrintingWorked.{worked-printed}
-use Rattle.pm_rules.proofs.printing_laws.printed_tokens_are_read.Goals as goal
-
-pub returns : goal.returns
-returns c =
-    record { worked = worked-printed; tokens = lex-line_text; code = code-line_text; one_line = one_line-line_text }

@@ -1,0 +1,3 @@
+pub mod LexingLaws
+pub mod LinesLaws
+pub mod NamesLaws

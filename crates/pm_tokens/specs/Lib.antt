@@ -1,0 +1,4 @@
+pub mod Answers
+pub mod Tokens
+pub mod Lexing
+pub mod Lines

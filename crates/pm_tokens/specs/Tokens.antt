@@ -1,0 +1,18 @@
+-- Tokens without the text that they lie in.
+use Rattle.std.specs.Prelude.{ℕ, List, ℤ, map}
+use Rattle.pm_tokens.specs.declared.token.Symbol.{Symbol}
+use Rattle.pm_tokens.specs.declared.token.Token.{Token}
+use Rattle.pm_tokens.specs.declared.token.Token.TheVariants as token
+
+pub data Tok : Type 0 where
+  name : List ℕ → Tok
+  number : ℤ → Tok
+  symbol : Symbol → Tok
+
+abbrev pub tok : Token → Tok
+tok (token.Name s) = name s.now
+tok (token.Number z) = number z
+tok (token.Symbol s) = symbol s
+
+abbrev pub toks : List Token → List Tok
+toks ts = map tok ts
