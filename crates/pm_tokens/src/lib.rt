@@ -4,6 +4,8 @@
 mod lexing;
 mod lines;
 mod stop;
+#[cfg(test)]
+mod tests;
 mod token;
 
 pub use lexing::{lex, name_of};

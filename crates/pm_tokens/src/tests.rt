@@ -1,0 +1,86 @@
+use crate::{Stop, Symbol, Token, code, lex, lines_of, name_of};
+use std::alloc::Global;
+use std::test::Fail;
+
+/// Whether a line has that many tokens.
+fn has_tokens(alloc: Global, line: &str, count: usize) -> bool {
+    match lex(alloc, line.as_bytes()) {
+        Ok(tokens) => tokens.len() == count,
+        Err(_) => false,
+    }
+}
+
+/// Whether some characters of a line are no token.
+fn is_refused(alloc: Global, line: &str) -> bool {
+    match lex(alloc, line.as_bytes()) {
+        Ok(_) => false,
+        Err(stop) => matches!(stop, Stop::Word),
+    }
+}
+
+#[test]
+fn a_line_is_cut_by_longest_match(rt: HostRuntime) -> Result<(), Fail> {
+    let Ok(tokens) = lex(rt.alloc(), b"a_1<=-9223372036854775808-b") else {
+        assert!(rt; false, "tokens");
+        return Ok(());
+    };
+    match tokens.as_slice() {
+        [
+            Token::Name(a),
+            Token::Symbol(Symbol::AtMost),
+            Token::Number(least),
+            Token::Symbol(Symbol::Minus),
+            Token::Name(b),
+        ] => {
+            assert!(rt; *a == b"a_1".as_slice());
+            assert!(rt; *least == i64::MIN);
+            assert!(rt; *b == b"b".as_slice());
+        }
+        _ => assert!(rt; false, "five tokens"),
+    }
+    Ok(())
+}
+
+#[test]
+fn tokens_are_counted_or_refused(rt: HostRuntime) -> Result<(), Fail> {
+    let alloc = rt.alloc();
+    let rows = [
+        ("", 0),
+        (" \t", 0),
+        ("a.b", 3),
+        ("===", 2),
+        ("<=<", 2),
+        ("(1 -1)", 4),
+    ];
+    for (line, count) in rows {
+        assert!(rt; has_tokens(alloc, line, count), "{line}");
+    }
+    for line in [
+        "!",
+        "A",
+        "é",
+        "0x",
+        "9223372036854775808",
+        "-9223372036854775809",
+        "a\r",
+    ] {
+        assert!(rt; is_refused(alloc, line), "{line}");
+    }
+    Ok(())
+}
+
+#[test]
+fn a_text_has_lines_and_a_line_has_code(rt: HostRuntime) -> Result<(), Fail> {
+    let lines = lines_of(rt.alloc(), b"wait 1\r\n# all\n")?;
+    match lines.as_slice() {
+        [first, second, third] => {
+            assert!(rt; code(first) == b"wait 1".as_slice());
+            assert!(rt; code(second) == b"".as_slice());
+            assert!(rt; code(third) == b"".as_slice());
+        }
+        _ => assert!(rt; false, "three lines"),
+    }
+    assert!(rt; name_of(b"a_1") == Some("a_1"));
+    assert!(rt; name_of(b"1a").is_none());
+    Ok(())
+}
