@@ -12,7 +12,7 @@ mod standard;
 mod tests;
 
 pub use gate::{FreeGate, Gate};
-pub use laws::rose_law;
+pub use laws::{rose_law, worked_cues};
 pub use memory::{MemSink, MemSource};
 pub use script::Cue;
 pub use sink::{Sink, write_whole};
