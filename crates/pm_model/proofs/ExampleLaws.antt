@@ -68,7 +68,7 @@ goes : (plan : Plan) (s : State) (m : Moved) (es : List Entry) → IsTimely plan
     → (IsTimely plan m.state → rest plan m.state ≡ es) → rest plan s ≡ m.entry ∷ es
 goes plan s m es ok t more = rest-step plan s m t ok ∙ ap (λ r. m.entry ∷ r) (more (turn-falls plan s m t ok).1)
 
-counter-run : sequential_run counter ≡ (count_at 0 (Some 1)).entry ∷ (count_at 1 (Some 2)).entry ∷ (count_at 2 None).entry ∷ []
+pub counter-run : sequential_run counter ≡ (count_at 0 (Some 1)).entry ∷ (count_at 1 (Some 2)).entry ∷ (count_at 2 None).entry ∷ []
 counter-run =
     goes counter _ (count_at 0 (Some 1)) _ (starts-timely counter (within 2 counter.agents (omega arith) (omega arith))) counts-0 (λ ok.
     goes counter _ (count_at 1 (Some 2)) _ ok counts-1 (λ ok.

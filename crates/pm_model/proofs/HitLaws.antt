@@ -3,6 +3,7 @@ use Rattle.std.proofs.Common.{◌≡◌, ℕ, zero, suc, ◌+◌, ◌<◌, ◌�
 use Rattle.std.specs.Prelude.{slice_get, ◌==◌, ◌&&◌}
 use Rattle.std.specs.List.{filter}
 use Rattle.std.proofs.lemmas.Bool.Decides.{nat_tests}
+use Rattle.std.proofs.lemmas.List.{append-nil, append_assoc}
 use Rattle.pm_base.specs.Layouts.{class_row}
 use Rattle.pm_base.specs.Windows.{inside}
 use Rattle.pm_base.specs.declared.layout.ClassRow.{ClassRow}
@@ -11,12 +12,7 @@ use Rattle.pm_base.specs.declared.value.Query.{Query}
 use Rattle.pm_base.specs.declared.value.Query.TheVariants as query
 use Rattle.pm_base.specs.declared.value.Value.{Value}
 use Rattle.pm_base.specs.declared.value.Window.{Window}
-use Rattle.pm_model.specs.Hits.{hits, numbered, is_asked, is_member}
-
--- that variable, where there is one
-abbrev pub shown : ℕ → Option Value → List Hit
-shown n None = []
-shown n (Some v) = record { var = n; value = v } ∷ []
+use Rattle.pm_model.specs.Hits.{hits, numbered, is_asked, is_member, shown, shown_from, shown_in}
 
 filter-yes : (P : Hit → Bool) (h : Hit) (hs : List Hit) → P h ≡ true → filter P (h ∷ hs) ≡ h ∷ filter P hs
 filter-yes P h hs e = ap (λ b. cond b (h ∷ filter P hs) (filter P hs)) e
@@ -113,11 +109,6 @@ hits_to-end classes values class w n e =
     all-below (is_asked classes (query.Class class w)) 0 n n values (omega arith)
     (λ h le. not-member row w h (past-class row h.var (omega (arith, e, le))))
 
--- a member that is there is a hit where its value is inside
-abbrev pub shown_in : Window → ℕ → Option Value → List Hit
-shown_in w n None = []
-shown_in w n (Some v) = cond (inside v w) (record { var = n; value = v } ∷ []) []
-
 shown-in : (classes : List ClassRow) (class : ℕ) (w : Window) (n : ℕ) (o : Option Value) → is_member (class_row classes class) n ≡ true
     → filter (is_asked classes (query.Class class w)) (shown n o) ≡ shown_in w n o
 shown-in classes class w n None e = refl
@@ -133,3 +124,23 @@ hits_to-more classes values class w n le lt =
     ∙ one-more (is_asked classes (query.Class class w)) 0 n n values (omega arith)
     ∙ ap (λ hs. filter (is_asked classes (query.Class class w)) (numbered 0 (take n values)) ++ hs)
     (shown-in classes class w n (slice_get values n) (in-class (class_row classes class) n le lt))
+
+-- the members from number n on
+members-from : (classes : List ClassRow) (values : List Value) (class : ℕ) (w : Window) (n c : ℕ)
+    → (class_row classes class).first ≤ n → n + c ≡ (class_row classes class).first + (class_row classes class).count
+    → hits classes values (query.Class class w) ≡ hits_to classes values (query.Class class w) n ++ shown_from w values n c
+members-from classes values class w n zero le e =
+    sym (hits_to-end classes values class w n (omega (arith, e)))
+    ∙ sym (append-nil (hits_to classes values (query.Class class w) n))
+members-from classes values class w n (suc c) le e =
+    members-from classes values class w (n + 1) c (omega (arith, le)) (omega (arith, e))
+    ∙ ap (λ hs. hs ++ shown_from w values (n + 1) c) (hits_to-more classes values class w n le (omega (arith, e)))
+    ∙ append_assoc (hits_to classes values (query.Class class w) n) (shown_in w n (slice_get values n)) (shown_from w values (n + 1) c)
+
+-- a query of a class goes through its members
+pub hits-class : (classes : List ClassRow) (values : List Value) (class : ℕ) (w : Window)
+    → hits classes values (query.Class class w) ≡ shown_from w values (class_row classes class).first (class_row classes class).count
+hits-class classes values class w =
+    let row = class_row classes class in
+    members-from classes values class w row.first row.count (omega arith) refl
+    ∙ ap (λ hs. hs ++ shown_from w values row.first row.count) (hits_to-first classes values class w)

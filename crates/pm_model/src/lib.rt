@@ -1,8 +1,14 @@
 //! The sequential run of a plan and its trace: definitions that contracts cite, and their laws.
 #![tactic(auto)]
 
-ghost use Rattle.std.specs.Prelude.{◌≡◌, ◌∷◌, ◌<◌, ◌^◌, Some, None, [], codes, length};
+ghost use Rattle.std.specs.Prelude.{◌≡◌, ◌∷◌, ◌<◌, ◌^◌, ℕ, List as Seq, Some, None, [], codes, length, slice_get};
+ghost use Rattle.pm_base.specs.Layouts.{class_row};
+ghost use Rattle.pm_base.specs.declared.layout.ClassRow.{ClassRow};
+ghost use Rattle.pm_base.specs.declared.value.Query.TheVariants as query;
+ghost use Rattle.pm_base.specs.declared.value.Value.{Value as TheValue};
+ghost use Rattle.pm_base.specs.declared.value.Window.{Window};
 ghost use Rattle.pm_model.specs.Entries.{IsCutAt, IsInOrder, IsOfPlan, IsOwnTime};
+ghost use Rattle.pm_model.specs.Hits.{hits, shown, shown_from};
 ghost use Rattle.pm_model.specs.Examples.{counter, tie_read_first, tie_write_first};
 ghost use Rattle.pm_model.specs.Traces.{trace};
 ghost use Rattle.pm_plan.specs.declared.plan.Plan.{Plan};
@@ -41,6 +47,16 @@ pub fn small_traces()
     ensures counter { trace counter ≡ codes "0 ant [c0=0,0] c0:=1,0\n1 ant [c0=1,0] c0:=2,0\n2 ant [c0=2,0] c0:=3,0\nend 3\n" }
     ensures write_first { trace tie_write_first ≡ codes "0 w c0:=5,0\n0 r [c0=5,0]\nend 2\n" }
     ensures read_first { trace tie_read_first ≡ codes "0 r [c0=0,0]\n0 w c0:=5,0\nend 2\n" }
+{}
+
+/// A query of one variable is a look-up; a query of a class goes through its members in order of number, and takes those
+/// whose value is inside the window.
+pub fn what_a_query_is_answered()
+    ensures one { (classes : Seq ClassRow) (values : Seq TheValue) (n : ℕ) →
+        hits classes values (query.One n) ≡ shown n (slice_get values n) }
+    ensures class { (classes : Seq ClassRow) (values : Seq TheValue) (class : ℕ) (w : Window) →
+        hits classes values (query.Class class w) ≡
+        shown_from w values (class_row classes class).first (class_row classes class).count }
 {}
 
 /// A run ends, since each turn lowers the work that is left; and what holds of each state of a run stays.

@@ -1,8 +1,7 @@
 ghost use Rattle.std.specs.Prelude.{◌≡◌, ◌++◌, ◌+◌, ◌<◌, ◌≤◌, ◌^◌, IfOk, OnOk, slice_get};
 ghost use Rattle.pm_base.specs.Layouts.{IsLayout};
 ghost use Rattle.pm_base.specs.declared.value.Query.TheVariants as query;
-ghost use Rattle.pm_model.specs.Hits.{hits};
-ghost use Rattle.pm_model.proofs.HitLaws.{shown, shown_in};
+ghost use Rattle.pm_model.specs.Hits.{hits, shown, shown_in};
 
 use pm_base::{Hit, Layout, List, Memory, Query, Value, Window};
 use std::alloc::Global;

@@ -3,7 +3,7 @@
 
 mod arithmetic;
 mod expressions;
-mod laws;
+pub mod laws;
 pub mod steps;
 #[cfg(test)]
 mod tests;

@@ -4,7 +4,8 @@ use Rattle.pm_base.specs.Layouts.{class_row}
 use Rattle.pm_base.specs.declared.layout.ClassRow.{ClassRow}
 use Rattle.pm_base.specs.declared.value.Query.TheVariants as query
 use Rattle.pm_base.proofs.Classes.{row_under}
-use Rattle.pm_model.proofs.HitLaws.{hits_to, hits_to-first, hits_to-more, hits_to-end, shown_in}
+use Rattle.pm_model.proofs.HitLaws.{hits_to, hits_to-first, hits_to-more, hits_to-end}
+use Rattle.pm_model.specs.Hits.{shown_in}
 use Rattle.pm_seq.proofs.hits.class_hits.Goals as goal
 
 pub overflow_add-var-end : goal.overflow_add-var-end

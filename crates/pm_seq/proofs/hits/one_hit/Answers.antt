@@ -1,5 +1,6 @@
 use Rattle.std.proofs.Common.{◌∙◌, sym, ap}
-use Rattle.pm_model.proofs.HitLaws.{hits-one, shown}
+use Rattle.pm_model.proofs.HitLaws.{hits-one}
+use Rattle.pm_model.specs.Hits.{shown}
 use Rattle.pm_seq.proofs.hits.one_hit.Goals as goal
 
 pub returns : goal.returns
