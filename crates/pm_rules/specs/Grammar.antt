@@ -1,5 +1,6 @@
 -- The texts of the grammar: what must stand on their lines for a program.
-use Rattle.std.specs.Prelude.{◌++◌, ◌⊎◌, Ok, Err, ◌≡◌, ◌&&◌, ℕ, ◌+◌, ◌≤◌, ◌<◌, Bool, true, false, List, [], ◌∷◌, length, map, get_or, Option, Some, None, option_map}
+use Rattle.std.specs.Prelude.{◌++◌, ◌⊎◌, Ok, Err, ◌≡◌, ◌&&◌, ℕ, ◌+◌, ◌≤◌, ◌<◌, Bool}
+use Rattle.std.specs.Prelude.{true, false, List, [], ◌∷◌, length, map, get_or, Option, Some, None, option_map}
 use Rattle.std.specs.List.{AllByRecursion}
 use Rattle.pm_base.specs.Fits.{all_true, fits}
 use Rattle.pm_base.specs.Layouts.{var_count}
@@ -19,19 +20,23 @@ use Rattle.pm_rules.specs.declared.fault.RuleFault.TheVariants as fault
 use Rattle.pm_rules.specs.declared.said.Said.{Said}
 use Rattle.pm_rules.specs.declared.said.Said.TheVariants as said
 
--- the lines of a text that aren't skipped, each with its number and its tokens; none where some characters are no token
+-- a line of a text that isn't skipped: its number and its tokens
 pub record Row : Type 0 where
   pub number : ℕ
   pub tokens : List Tok
 
+-- a line before those rows; one without a token is skipped
 abbrev pub with_row : ℕ → List Tok → Option (List Row) → Option (List Row)
 with_row n [] rows = rows
 with_row n (k ∷ ks) rows = option_map (λ (rs : List Row). record { number = n; tokens = k ∷ ks } ∷ rs) rows
 
+-- the same, and no rows where some characters of the line are no token
 abbrev pub or_none : ℕ → Option (List Tok) → Option (List Row) → Option (List Row)
 or_none n None rows = None
 or_none n (Some ks) rows = with_row n ks rows
 
+-- the lines of a text that aren't skipped, numbered from n on, each with its tokens; none where some characters are no
+-- token
 abbrev pub rows_from : ℕ → List (List ℕ) → Option (List Row)
 rows_from n [] = Some []
 rows_from n (l ∷ ls) = or_none n (lex (code l)) (rows_from (n + 1) ls)
@@ -41,12 +46,13 @@ pub record IsShort (row : Row) : Type 0 where
   pub number : row.number ≤ 200
   pub tokens : length row.tokens ≤ 64
 
--- each `else` and `end` has an open `if`, an `if` has at most one `else`, and none is open at the end; for each open `if`,
--- the innermost first, whether its `else` came
+-- no `if` is open
 abbrev pub ends : List Bool → Bool
 ends [] = true
 ends (o ∷ os) = false
 
+-- each `else` and `end` has an open `if`, an `if` has at most one `else`, and none is open at the end; for each open
+-- `if`, the innermost first, whether its `else` came
 abbrev pub is_matched : List Bool → List Said → Bool
 is_matched opens [] = ends opens
 is_matched opens (said.If test ∷ ss) = is_matched (false ∷ opens) ss
@@ -59,11 +65,12 @@ is_matched opens (said.Reg w z ∷ ss) = is_matched opens ss
 is_matched opens (said.Sense w s ∷ ss) = is_matched opens ss
 is_matched opens (said.Does s ∷ ss) = is_matched opens ss
 
--- an `else` of an empty second list may stand or be left out: without those that stand right before their `end`
+-- an `else` right before its `end` is left out
 abbrev pub drops_else : Said → List Said → List Said
 drops_else said.Else (said.End ∷ ss) = said.End ∷ ss
 drops_else s ss = s ∷ ss
 
+-- the lines without each `else` of an empty second list, which may stand or be left out
 abbrev pub without_idle_else : List Said → List Said
 without_idle_else [] = []
 without_idle_else (s ∷ ss) = drops_else s (without_idle_else ss)
@@ -76,6 +83,7 @@ plain_step (Stmt-F.Set place x y) = true
 plain_step (Stmt-F.Add place x y) = false
 plain_step (Stmt-F.Wait e) = true
 
+-- no statement in it is an `add`
 abbrev pub is_plain : Stmt → Bool
 is_plain = fold-Stmt Bool plain_step
 

@@ -1,5 +1,6 @@
 -- What lines say, one after another.
-use Rattle.std.specs.Prelude.{◌≡◌, ◌≤◌, ◌+◌, length, ℕ, Bool, true, not, ◌&&◌, List, [], ◌∷◌, ◌++◌, Option, Some, None, is_some, Result, Ok}
+use Rattle.std.specs.Prelude.{◌≡◌, ◌≤◌, ◌+◌, length, ℕ, Bool, true, not, ◌&&◌, List, []}
+use Rattle.std.specs.Prelude.{◌∷◌, ◌++◌, Option, Some, None, is_some, Result, Ok}
 use Rattle.pm_base.specs.declared.program.Program.{Program}
 use Rattle.pm_base.specs.declared.program.Stmt.{Stmt}
 use Rattle.pm_base.specs.Fits.{depth_of, stmt_fits}
@@ -9,7 +10,8 @@ use Rattle.pm_rules.specs.Reading.{Table, class_rows}
 use Rattle.pm_rules.specs.Sayable.{is_sayable}
 use Rattle.pm_rules.specs.Statements.{statement}
 use Rattle.pm_rules.specs.declared.fault.RuleFault.{RuleFault}
-use Rattle.pm_rules.specs.Rules.{after_read, go_on, scope_of, is_one_too_many, is_out_of_order, is_twice, is_unmatched, with_said}
+use Rattle.pm_rules.specs.Rules.{after_read, go_on, scope_of, is_one_too_many, is_out_of_order, is_twice, is_unmatched}
+use Rattle.pm_rules.specs.Rules.{with_said}
 use Rattle.pm_rules.specs.Spelling.{reg_said, says_all, sense_said, spell_said}
 use Rattle.pm_rules.specs.declared.draft.Draft.{Draft}
 use Rattle.pm_rules.specs.declared.draft.Frame.{Frame}
@@ -23,8 +25,10 @@ all_said (s ∷ ss) d = all_said ss (with_said s d)
 
 -- a line has none of the faults of order, nesting, number and names declared twice
 abbrev pub is_taken : Draft → Said → Bool
-is_taken d s = not (is_out_of_order d s) && (not (is_unmatched d s) && (not (is_one_too_many d s) && not (is_twice d s)))
+is_taken d s =
+    not (is_out_of_order d s) && (not (is_unmatched d s) && (not (is_one_too_many d s) && not (is_twice d s)))
 
+-- each of the lines has none of these faults, after those before it
 abbrev pub are_taken : Draft → List Said → Bool
 are_taken d [] = true
 are_taken d (s ∷ ss) = is_taken d s && are_taken (with_said s d) ss
@@ -33,15 +37,17 @@ are_taken d (s ∷ ss) = is_taken d s && are_taken (with_said s d) ss
 abbrev pub draft_of : Program → Draft
 draft_of p = record { regs = p.regs; senses = p.senses; frames = []; body = p.body }
 
--- what the lines of a draft say, without the needless `else` of a closed `if`
+-- what the lines of an open `if` say up to its `else`, where that came
 abbrev pub first_said : Option (List Stmt) → List Said
 first_said None = []
 first_said (Some first) = says_all first ++ said.Else ∷ []
 
+-- what the lines say that opened these lists, the outermost first
 abbrev pub frames_said : List Frame → List Said
 frames_said [] = []
 frames_said (f ∷ fs) = says_all f.outer ++ (said.If f.test ∷ (first_said f.first ++ frames_said fs))
 
+-- what the lines of a draft say, without the needless `else` of a closed `if`
 abbrev pub draft_says : Draft → List Said
 draft_says d = reg_said d.regs ++ (sense_said d.senses ++ (frames_said d.frames ++ says_all d.body))
 
@@ -75,6 +81,7 @@ pub record IsFine (t : Table) (version : ℕ) (d : Draft) (s : Said) : Type 0 wh
   pub sayable : is_sayable (scope_of t d) version s ≡ true
   pub short : length (spell_said (scope_of t d) s) ≤ 64
 
+-- each of the lines is fine in the scope that those before it leave
 abbrev pub AreFine : Table → ℕ → Draft → List Said → Type 0
 AreFine t version d [] = Unit {0}
 AreFine t version d (s ∷ ss) = IsFine t version d s × AreFine t version (with_said s d) ss

@@ -1,5 +1,6 @@
 -- Expressions and places, from tokens.
-use Rattle.std.specs.Prelude.{ℕ, zero, suc, ◌+◌, ◌^◌, nat_lt, Bool, true, false, ◌&&◌, if◌then◌else◌, List, [], ◌∷◌, map, Option, Some, None, option_map, codes}
+use Rattle.std.specs.Prelude.{ℕ, zero, suc, ◌+◌, ◌^◌, nat_lt, Bool, true, false, ◌&&◌}
+use Rattle.std.specs.Prelude.{if◌then◌else◌, List, [], ◌∷◌, map, Option, Some, None, option_map, codes}
 use Rattle.std.specs.Str.{bytes_eq}
 use Rattle.pm_base.specs.Layouts.{class_row}
 use Rattle.pm_base.specs.Names.{is_reserved}
@@ -28,16 +29,19 @@ pub record Scope : Type 0 where
   pub regs : List (List ℕ)
   pub senses : List (List ℕ)
 
+-- the names of a scenario's classes, in order
 abbrev pub class_names : Table → List (List ℕ)
 class_names t = map (λ c. c.0) t.classes
 
+-- where the members of each class stand
 abbrev pub class_rows : Table → List ClassRow
 class_rows t = map (λ c. c.1) t.classes
 
--- the first number of a name in a list that begins at number i, where it fits 32 bits
+-- a number of 32 bits
 abbrev pub in_u32 : ℕ → Option ℕ
 in_u32 n = if nat_lt n (2 ^ 32) then Some n else None
 
+-- the first number of a name in a list that begins at number i, where it fits 32 bits
 abbrev pub number_from : List ℕ → ℕ → List (List ℕ) → Option ℕ
 number_from w i [] = None
 number_from w i (n ∷ ns) = if bytes_eq n w then in_u32 i else number_from w (i + 1) ns
@@ -46,38 +50,46 @@ number_from w i (n ∷ ns) = if bytes_eq n w then in_u32 i else number_from w (i
 unfoldable pub number_of : List (List ℕ) → List ℕ → Option ℕ
 number_of names w = number_from w 0 names
 
--- the number of a name, and whether it is there; number 0 stands for a name that isn't
+-- a name's number, and whether it is there; number 0 stands for a name that isn't
 abbrev pub known_or_zero : Option ℕ → ℕ × Bool
 known_or_zero (Some n) = (n, true)
 known_or_zero None = (0, false)
 
+-- so of a name in a list
 unfoldable pub number_in : List (List ℕ) → List ℕ → ℕ × Bool
 number_in names w = known_or_zero (number_of names w)
 
+-- the symbol `(`
 abbrev pub is_open : Symbol → Bool
 is_open sym.Open = true
 is_open _ = false
 
+-- the symbol `)`
 abbrev pub is_close : Symbol → Bool
 is_close sym.Close = true
 is_close _ = false
 
+-- the symbol `[`
 abbrev pub is_left : Symbol → Bool
 is_left sym.LeftBracket = true
 is_left _ = false
 
+-- the symbol `]`
 abbrev pub is_right : Symbol → Bool
 is_right sym.RightBracket = true
 is_right _ = false
 
+-- the symbol `.`
 abbrev pub is_dot : Symbol → Bool
 is_dot sym.Dot = true
 is_dot _ = false
 
+-- the symbol `,`
 abbrev pub is_comma : Symbol → Bool
 is_comma sym.Comma = true
 is_comma _ = false
 
+-- the symbol `=`
 abbrev pub is_assign : Symbol → Bool
 is_assign sym.Assign = true
 is_assign _ = false
@@ -96,7 +108,7 @@ name_at (name w ∷ ts) = Some (w, ts)
 name_at (symbol s ∷ ts) = None
 name_at (number z ∷ ts) = None
 
--- the operators, by their symbols and words
+-- the operators of one symbol
 abbrev pub operator_by : Symbol → Option Op
 operator_by sym.Plus = Some op.Add
 operator_by sym.Minus = Some op.Sub
@@ -109,11 +121,13 @@ operator_by sym.Equal = Some op.Equal
 operator_by sym.Differ = Some op.Differ
 operator_by _ = None
 
+-- the operators that are words
 abbrev pub operator_named : List ℕ → Option Op
 operator_named w =
     if bytes_eq w (codes "min") then Some op.Min
     else if bytes_eq w (codes "max") then Some op.Max else None
 
+-- OP, and what stands after it
 unfoldable pub operator : List Tok → Option (Op × List Tok)
 operator [] = None
 operator (symbol s ∷ ts) = option_map (λ o. (o, ts)) (operator_by s)
@@ -128,6 +142,7 @@ field_named w =
     else if bytes_eq w (codes "sx") then Some field.Sx
     else if bytes_eq w (codes "sy") then Some field.Sy else None
 
+-- FIELD, and what stands after it
 unfoldable pub field_at : List Tok → Option (Field × List Tok)
 field_at [] = None
 field_at (name w ∷ ts) = option_map (λ f. (f, ts)) (field_named w)
@@ -144,6 +159,7 @@ part sc w ts = do
   f ← field_at ts
   Some ((Part (number_in sc.senses w).0 f.0, (number_in sc.senses w).1), f.1)
 
+-- REGISTER
 unfoldable pub register : Scope → List ℕ → Expr × Bool
 register sc w = (Reg (number_in sc.regs w).0, (number_in sc.regs w).1)
 
@@ -160,6 +176,7 @@ named sc w ts =
     else if is_reserved w then None
     else dotted sc w ts (after is_dot ts)
 
+-- an operator between two expressions, whose names are there where those of both are
 unfoldable pub joined : Op → Expr × Bool → Expr × Bool → Expr × Bool
 joined o a b = (Bin o a.0 b.0, a.1 && b.1)
 
@@ -199,12 +216,14 @@ has_members t class = nat_lt 0 (class_row (class_rows t) class).count
 abbrev pub member_at : Table → ℕ × Bool → Expr × Bool → Place × Bool
 member_at t class at = (Member class.0 at.0, (class.1 && has_members t class.0) && at.1)
 
+-- the member of a class at an index, after its `[`
 unfoldable pub indexed : Scope → List ℕ → List Tok → Option (Found Place)
 indexed sc w ts = do
   at ← expr sc ts
   rest ← after is_right at.1
   Some (member_at sc.table (number_in (class_names sc.table) w) at.0, rest)
 
+-- a member where a `[` follows, else a variable
 abbrev pub bracketed : Scope → List ℕ → List Tok → Option (List Tok) → Option (Found Place)
 bracketed sc w ts (Some inner) = indexed sc w inner
 bracketed sc w ts None = Some (variable sc w, ts)

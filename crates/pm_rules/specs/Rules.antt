@@ -1,5 +1,7 @@
 -- The program of a rule's text, or the first fault of its first faulty line.
-use Rattle.std.specs.Prelude.{ℕ, ◌+◌, nat_lt, nat_le, Bool, true, false, not, ◌&&◌, ◌||◌, if◌then◌else◌, List, [], ◌∷◌, ◌++◌, length, Option, Some, None, Result, Ok, Err}
+use Rattle.std.specs.Prelude.{ℕ, ◌+◌, nat_lt, nat_le, Bool, true, false, not, ◌&&◌, ◌||◌}
+use Rattle.std.specs.Prelude.{if◌then◌else◌, List, [], ◌∷◌, ◌++◌, length, Option, Some, None, Result}
+use Rattle.std.specs.Prelude.{Ok, Err}
 use Rattle.pm_base.specs.Fits.{has_name, reg_names, sense_names}
 use Rattle.pm_base.specs.declared.program.Expr.{Expr}
 use Rattle.pm_base.specs.declared.program.Program.{Program}
@@ -26,6 +28,7 @@ go_on f (Err e) = Err e
 abbrev pub empty : Draft
 empty = record { regs = []; senses = []; frames = []; body = [] }
 
+-- nothing stands in the list
 abbrev pub is_empty : {A : Type 0} → List A → Bool
 is_empty [] = true
 is_empty (x ∷ xs) = false
@@ -40,20 +43,22 @@ is_out_of_order d (said.Reg w z) = not (is_empty d.senses) || is_begun d
 is_out_of_order d (said.Sense w s) = is_begun d
 is_out_of_order d _ = false
 
--- the frames before the last one, and the last one
+-- a frame in front of those
 abbrev pub with_first : Frame → Option (List Frame × Frame) → List Frame × Frame
 with_first f None = ([], f)
 with_first f (Some (fs, g)) = (f ∷ fs, g)
 
+-- the frames before the last one, and the last one
 abbrev pub last_frame : List Frame → Option (List Frame × Frame)
 last_frame [] = None
 last_frame (f ∷ fs) = Some (with_first f (last_frame fs))
 
--- an `if` is open, and its `else` has not come
+-- its `else` has not come
 abbrev pub has_no_first : Option (List Stmt) → Bool
 has_no_first None = true
 has_no_first (Some stmts) = false
 
+-- an `if` is open, and its `else` has not come
 abbrev pub takes_else : Option (List Frame × Frame) → Bool
 takes_else None = false
 takes_else (Some (fs, f)) = has_no_first f.first
@@ -71,6 +76,7 @@ is_one_too_many d (said.Reg w z) = nat_le 16 (length d.regs)
 is_one_too_many d (said.Sense w s) = nat_le 16 (length d.senses)
 is_one_too_many d _ = false
 
+-- a register or a sense has this name
 abbrev pub is_declared : Draft → List ℕ → Bool
 is_declared d w = has_name w (reg_names d.regs) || has_name w (sense_names d.senses)
 
@@ -129,6 +135,7 @@ with_said said.End d = ended (last_frame d.frames) d
 abbrev pub scope_of : Table → Draft → Scope
 scope_of t d = record { table = t; regs = reg_names d.regs; senses = sense_names d.senses }
 
+-- the fault, or else the draft
 abbrev pub or_draft : Option RuleFault → Draft → Result Draft RuleFault
 or_draft None d = Ok d
 or_draft (Some f) d = Err f

@@ -1,5 +1,6 @@
 -- What a line may say in a scope: the names that it uses are there, and the one that it declares may be declared.
-use Rattle.std.specs.Prelude.{◌≡◌, ℕ, ◌==◌, ◌<◌, Bool, true, false, ◌&&◌, nat_lt, List, [], ◌++◌, get_or, length}
+use Rattle.std.specs.Prelude.{◌≡◌, ℕ, ◌==◌, ◌<◌, Bool, true, false, ◌&&◌, nat_lt, List, []}
+use Rattle.std.specs.Prelude.{◌++◌, get_or, length}
 use Rattle.pm_base.specs.Fits.{change_known, is_known, sense_known}
 use Rattle.pm_base.specs.declared.fits.Known.{Known}
 use Rattle.pm_base.specs.declared.program.Stmt.{Stmt}
@@ -24,6 +25,7 @@ sayable_step sc version (Stmt-F.Add place x y) =
     version == 2 && change_known (class_rows sc.table) (known_in sc) place x y
 sayable_step sc version (Stmt-F.Wait e) = is_known (known_in sc) e
 
+-- so of a statement of one line
 abbrev pub does_sayable : Scope → ℕ → Stmt → Bool
 does_sayable sc version = fold-Stmt Bool (sayable_step sc version)
 

@@ -1,5 +1,6 @@
 -- The tokens of a tree, in the grammar's order, and the text of tokens.
-use Rattle.std.specs.Prelude.{ℕ, Bool, true, false, ◌||◌, if◌then◌else◌, List, [], ◌∷◌, ◌++◌, get_or, map, codes}
+use Rattle.std.specs.Prelude.{ℕ, Bool, true, false, ◌||◌, if◌then◌else◌, List, [], ◌∷◌, ◌++◌}
+use Rattle.std.specs.Prelude.{get_or, map, codes}
 use Rattle.std.specs.Fmt.{signed_decimal}
 use Rattle.std.specs.List.{flat_map}
 use Rattle.pm_base.specs.Fits.{reg_names, sense_names}
@@ -28,6 +29,7 @@ use Rattle.pm_rules.specs.declared.said.Said.TheVariants as said
 use Rattle.pm_tokens.specs.declared.token.Symbol.{Symbol}
 use Rattle.pm_tokens.specs.declared.token.Symbol.TheVariants as sym
 
+-- the token of each operator
 abbrev pub op_token : Op → Tok
 op_token op.Add = symbol sym.Plus
 op_token op.Sub = symbol sym.Minus
@@ -41,6 +43,7 @@ op_token op.AtMost = symbol sym.AtMost
 op_token op.Equal = symbol sym.Equal
 op_token op.Differ = symbol sym.Differ
 
+-- the word of each field
 abbrev pub field_word : Field → List ℕ
 field_word field.N = codes "n"
 field_word field.I = codes "i"
@@ -70,7 +73,8 @@ spell sc = fold-Expr (List Tok) (spell_step sc)
 abbrev pub spell_place : Scope → Place → List Tok
 spell_place sc (Var var) = name (name_in sc.table.vars var) ∷ []
 spell_place sc (Member class at) =
-    name (name_in (class_names sc.table) class) ∷ symbol sym.LeftBracket ∷ (spell sc at ++ symbol sym.RightBracket ∷ [])
+    name (name_in (class_names sc.table) class) ∷ symbol sym.LeftBracket ∷
+    (spell sc at ++ symbol sym.RightBracket ∷ [])
 
 -- read NAME = PLACE, scan NAME = CLASS EXPR EXPR EXPR EXPR
 abbrev pub spell_sense : Scope → List ℕ → Sense → List Tok
@@ -94,6 +98,7 @@ spell_does_step sc (Stmt-F.Set place x y) = spell_change sc (codes "set") place 
 spell_does_step sc (Stmt-F.Add place x y) = spell_change sc (codes "add") place x y
 spell_does_step sc (Stmt-F.Wait e) = name (codes "wait") ∷ spell sc e
 
+-- the tokens of a statement of one line
 abbrev pub spell_does : Scope → Stmt → List Tok
 spell_does sc = fold-Stmt (List Tok) (spell_does_step sc)
 
@@ -106,16 +111,17 @@ spell_said sc (said.If test) = name (codes "if") ∷ spell sc test
 spell_said sc said.Else = name (codes "else") ∷ []
 spell_said sc said.End = name (codes "end") ∷ []
 
--- the lists of an `if`, where an empty second one is left out
+-- what these lists say, one after another
 abbrev pub concat : List (List Said) → List Said
 concat [] = []
 concat (l ∷ ls) = l ++ concat ls
 
+-- the second list of an `if` with its `else`; an empty one is left out
 abbrev pub else_said : List (List Said) → List Said
 else_said [] = []
 else_said (l ∷ ls) = said.Else ∷ concat (l ∷ ls)
 
--- what the lines of a statement say
+-- what the lines of a statement say, given what those under it say
 abbrev pub says_step : Stmt-F (List Said) → List Said
 says_step (Stmt-F.Let reg e) = said.Does (stmt.Let reg e) ∷ []
 says_step (Stmt-F.If test first second) = said.If test ∷ (concat first ++ (else_said second ++ said.End ∷ []))
@@ -123,16 +129,20 @@ says_step (Stmt-F.Set place x y) = said.Does (stmt.Set place x y) ∷ []
 says_step (Stmt-F.Add place x y) = said.Does (stmt.Add place x y) ∷ []
 says_step (Stmt-F.Wait e) = said.Does (stmt.Wait e) ∷ []
 
+-- what the lines of a statement say, an `if` with its lists and its `end`
 abbrev pub says : Stmt → List Said
 says = fold-Stmt (List Said) says_step
 
+-- what the lines of the statements say, one after another
 abbrev pub says_all : List Stmt → List Said
 says_all stmts = concat (map says stmts)
 
+-- a line for each register
 abbrev pub reg_said : List RegRow → List Said
 reg_said [] = []
 reg_said (row ∷ rows) = said.Reg row.name row.start ∷ reg_said rows
 
+-- a line for each sense
 abbrev pub sense_said : List SenseRow → List Said
 sense_said [] = []
 sense_said (row ∷ rows) = said.Sense row.name row.sense ∷ sense_said rows
@@ -145,6 +155,7 @@ program_says p = reg_said p.regs ++ (sense_said p.senses ++ says_all p.body)
 abbrev pub program_scope : Table → Program → Scope
 program_scope t p = record { table = t; regs = reg_names p.regs; senses = sense_names p.senses }
 
+-- the characters of each symbol
 abbrev pub symbol_text : Symbol → List ℕ
 symbol_text sym.Open = codes "("
 symbol_text sym.Close = codes ")"
@@ -163,6 +174,7 @@ symbol_text sym.Star = codes "*"
 symbol_text sym.Slash = codes "/"
 symbol_text sym.Percent = codes "%"
 
+-- the text of a token: a name as it is, a number in decimal digits with its sign, a symbol's characters
 abbrev pub token_text : Tok → List ℕ
 token_text (name w) = w
 token_text (number z) = signed_decimal z
@@ -193,6 +205,7 @@ abbrev pub text_behind : Tok → List Tok → List ℕ
 text_behind a [] = []
 text_behind a (b ∷ ts) = gap a b ++ (token_text b ++ text_behind b ts)
 
+-- the text of a line's tokens, with the gaps between them
 abbrev pub line_text : List Tok → List ℕ
 line_text [] = []
 line_text (a ∷ ts) = token_text a ++ text_behind a ts

@@ -1,5 +1,6 @@
 -- What a line says, from its tokens.
-use Rattle.std.specs.Prelude.{ℕ, ◌==◌, Bool, true, not, ◌&&◌, if◌then◌else◌, List, [], ◌∷◌, ℤ, Option, Some, None, codes}
+use Rattle.std.specs.Prelude.{ℕ, ◌==◌, Bool, true, not, ◌&&◌, if◌then◌else◌, List, [], ◌∷◌, ℤ}
+use Rattle.std.specs.Prelude.{Option, Some, None, codes}
 use Rattle.std.specs.Str.{bytes_eq}
 use Rattle.pm_base.specs.Names.{is_name, is_reserved}
 use Rattle.pm_base.specs.declared.program.Expr.{Expr}
@@ -8,7 +9,8 @@ use Rattle.pm_base.specs.declared.program.Sense.{Sense}
 use Rattle.pm_base.specs.declared.program.Sense.TheVariants as sense
 use Rattle.pm_base.specs.declared.program.Stmt.TheVariants as stmt
 use Rattle.pm_tokens.specs.Answers.{◌>>=◌}
-use Rattle.pm_rules.specs.Reading.{Found, Scope, after, class_names, expr, is_assign, is_comma, name_at, number_in, place}
+use Rattle.pm_rules.specs.Reading.{Found, Scope, after, class_names, expr, is_assign, is_comma, name_at, number_in}
+use Rattle.pm_rules.specs.Reading.{place}
 use Rattle.pm_tokens.specs.Tokens.{Tok, name, number, symbol}
 use Rattle.pm_rules.specs.declared.said.Said.{Said}
 use Rattle.pm_rules.specs.declared.said.Said.TheVariants as said
@@ -95,10 +97,11 @@ let_line sc ts = do
   e ← expr sc rest
   whole (said.Does (stmt.Let (number_in sc.regs w.0).0 e.0.0), (number_in sc.regs w.0).1 && e.0.1) e.1
 
--- PLACE = EXPR , EXPR, after `set` or `add`
+-- the place and the two expressions of a `set` or `add`, and whether all their names are there
 abbrev pub Change : Type 0
 Change = (Place × (Expr × Expr)) × Bool
 
+-- PLACE = EXPR , EXPR, after `set` or `add`
 unfoldable pub change : Scope → List Tok → Option Change
 change sc ts = do
   at ← place sc ts
@@ -108,27 +111,31 @@ change sc ts = do
   y ← expr sc second
   whole ((at.0.0, (x.0.0, y.0.0)), at.0.1 && (x.0.1 && y.0.1)) y.1
 
+-- the change, after `set`
 unfoldable pub set_line : Scope → List Tok → Option Read
 set_line sc ts = do
   c ← change sc ts
   Some (said.Does (stmt.Set c.0.0 c.0.1.0 c.0.1.1), c.1)
 
+-- the change, after `add`
 unfoldable pub add_line : Scope → List Tok → Option Read
 add_line sc ts = do
   c ← change sc ts
   Some (said.Does (stmt.Add c.0.0 c.0.1.0 c.0.1.1), c.1)
 
--- EXPR, after `wait` or `if`
+-- EXPR alone, after `wait` or `if`
 unfoldable pub only : Scope → List Tok → Option (Expr × Bool)
 only sc ts = do
   e ← expr sc ts
   whole e.0 e.1
 
+-- the number of the wait, after `wait`
 unfoldable pub wait_line : Scope → List Tok → Option Read
 wait_line sc ts = do
   e ← only sc ts
   Some (said.Does (stmt.Wait e.0), e.1)
 
+-- the test, after `if`
 unfoldable pub if_line : Scope → List Tok → Option Read
 if_line sc ts = do
   e ← only sc ts

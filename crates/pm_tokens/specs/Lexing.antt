@@ -1,22 +1,27 @@
 -- The tokens of a line.
-use Rattle.std.specs.Prelude.{ℕ, zero, suc, ◌+◌, ◌-◌, ◌*◌, ◌^◌, Bool, true, false, ◌&&◌, ◌||◌, ◌==◌, if◌then◌else◌, nat_le, List, [], ◌∷◌, ◌++◌, take, slice_index, Option, Some, None, option_map, pos, neg_ℤ}
+use Rattle.std.specs.Prelude.{ℕ, zero, suc, ◌+◌, ◌-◌, ◌*◌, ◌^◌, Bool, true, false, ◌&&◌, ◌||◌}
+use Rattle.std.specs.Prelude.{◌==◌, if◌then◌else◌, nat_le, List, [], ◌∷◌, ◌++◌, take, slice_index}
+use Rattle.std.specs.Prelude.{Option, Some, None, option_map, pos, neg_ℤ}
 use Rattle.pm_base.specs.Names.{is_lower, is_word}
 use Rattle.pm_tokens.specs.Tokens.{Tok, name, number, symbol}
 use Rattle.pm_tokens.specs.Answers.{◌>>=◌}
 use Rattle.pm_tokens.specs.declared.token.Symbol.{Symbol}
 use Rattle.pm_tokens.specs.declared.token.Symbol.TheVariants as sym
 
+-- a decimal digit
 abbrev pub is_digit : ℕ → Bool
 is_digit b = nat_le 48 b && nat_le b 57
 
+-- a space or a tab, which separates tokens
 abbrev pub is_blank : ℕ → Bool
 is_blank b = b == 32 || b == 9
 
--- how many bytes at the front are of a name, and how many are digits
+-- how many bytes at the front are of a name
 abbrev pub word_len : List ℕ → ℕ
 word_len [] = 0
 word_len (b ∷ t) = if is_word b then word_len t + 1 else 0
 
+-- how many bytes at the front are digits
 abbrev pub digits_len : List ℕ → ℕ
 digits_len [] = 0
 digits_len (b ∷ t) = if is_digit b then digits_len t + 1 else 0
@@ -40,12 +45,15 @@ digits most text =
     let n = digits_len text in
     if n == word_len text then option_map (λ v. (v, n)) (at_most most (take n text)) else None
 
+-- a number without a sign, up to the greatest of 64 bits
 unfoldable pub positive : List ℕ → Option Cut
 positive text = option_map (λ d. (number (pos d.0), d.1)) (digits (2 ^ 63 - 1) text)
 
+-- a number behind its `-`, down to the least of 64 bits
 unfoldable pub negative : List ℕ → Option Cut
 negative text = option_map (λ d. (number (neg_ℤ (pos d.0)), d.1 + 1)) (digits (2 ^ 63) text)
 
+-- a name of at most 32 bytes; a longer run is no token
 unfoldable pub word : List ℕ → Option Cut
 word text = let n = word_len text in if nat_le n 32 then Some (name (take n text), n) else None
 
@@ -55,9 +63,11 @@ pair true s two = Some (symbol two, 2)
 pair false None two = None
 pair false (Some s) two = Some (symbol s, 1)
 
+-- a symbol of one byte
 abbrev pub one : Symbol → Option Cut
 one s = Some (symbol s, 1)
 
+-- the symbol that begins with this byte, by the byte after it
 unfoldable pub mark : ℕ → ℕ → Option Cut
 mark b next =
     if b == 40 then one sym.Open else if b == 41 then one sym.Close
@@ -91,5 +101,6 @@ lex_from zero (b ∷ t) =
 abbrev pub behind : List Tok → Option (List Tok) → Option (List Tok)
 behind front more = option_map (λ ts. front ++ ts) more
 
+-- the tokens of a text, by longest match; none where some characters are no token
 unfoldable pub lex : List ℕ → Option (List Tok)
 lex text = lex_from zero text

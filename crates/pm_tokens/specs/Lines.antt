@@ -1,12 +1,14 @@
 -- The lines of a text, and what a line says.
-use Rattle.std.specs.Prelude.{◌≡◌, ◌++◌, ℕ, ◌+◌, ◌-◌, ◌==◌, false, if◌then◌else◌, List, [], ◌∷◌, take, length, slice_index}
+use Rattle.std.specs.Prelude.{◌≡◌, ◌++◌, ℕ, ◌+◌, ◌-◌, ◌==◌, false, if◌then◌else◌, List}
+use Rattle.std.specs.Prelude.{[], ◌∷◌, take, length, slice_index}
 use Rattle.std.specs.List.{AllByRecursion}
 
--- the pieces between line feeds
+-- a byte in front of the first line
 abbrev pub onto_first : ℕ → List (List ℕ) → List (List ℕ)
 onto_first b [] = (b ∷ []) ∷ []
 onto_first b (l ∷ ls) = (b ∷ l) ∷ ls
 
+-- the pieces between line feeds
 unfoldable pub lines_of : List ℕ → List (List ℕ)
 lines_of [] = [] ∷ []
 lines_of (b ∷ t) = if b == 10 then [] ∷ lines_of t else onto_first b (lines_of t)
@@ -17,10 +19,11 @@ joined [] = []
 joined (l ∷ []) = l
 joined (l ∷ m ∷ ls) = l ++ (10 ∷ joined (m ∷ ls))
 
--- no byte of it is a line feed
+-- the byte is no line feed
 abbrev pub IsNoFeed : ℕ → Type 0
 IsNoFeed b = (b == 10) ≡ false
 
+-- no byte of it is a line feed
 abbrev pub IsOneLine : List ℕ → Type 0
 IsOneLine l = AllByRecursion IsNoFeed l
 
