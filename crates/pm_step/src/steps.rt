@@ -2,7 +2,8 @@ ghost use Rattle.std.specs.Prelude.{◌≡◌, ◌<◌, ◌≤◌, ◌^◌, IfOk
 ghost use Rattle.pm_base.specs.Layouts.{IsLayout};
 ghost use Rattle.pm_step.specs.Writes.{begins_with, place_of};
 ghost use Rattle.pm_step.specs.Expressions.{seen, sight};
-ghost use Rattle.pm_step.specs.Steps.{act_of, does, does_all, no_deeds, pair, query_of, step, variable, with_change, written, IsRising};
+ghost use Rattle.pm_step.specs.Steps.{act_of, does, does_all, no_deeds, pair, query_of, step, variable, with_change};
+ghost use Rattle.pm_step.specs.Steps.{written, IsRising};
 
 use crate::expressions::{Scene, value};
 use crate::{Act, Deeds, Next};
