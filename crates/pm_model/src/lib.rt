@@ -13,7 +13,8 @@ ghost use Rattle.pm_model.specs.Examples.{counter, tie_read_first, tie_write_fir
 ghost use Rattle.pm_model.specs.Traces.{trace};
 ghost use Rattle.pm_plan.specs.declared.plan.Plan.{Plan};
 ghost use Rattle.pm_plan.specs.Limits.{IsWithinLimits};
-ghost use Rattle.pm_model.specs.Runs.{sequential_run, sequential_start, sequential_turn, Moved, IsTimely, IsRetired, rest, work};
+ghost use Rattle.pm_model.specs.Runs.{sequential_run, sequential_start, sequential_turn, Moved, IsTimely, IsRetired};
+ghost use Rattle.pm_model.specs.Runs.{rest, work};
 ghost use Rattle.pm_model.specs.declared.State.{State as TheState};
 ghost use Rattle.std.specs.List.{AllByRecursion};
 
@@ -44,7 +45,8 @@ pub struct Deed {
 /// The traces of three small plans: an agent that counts, and two agents at the same time, of which the lower number
 /// acts first.
 pub fn small_traces()
-    ensures counter { trace counter ≡ codes "0 ant [c0=0,0] c0:=1,0\n1 ant [c0=1,0] c0:=2,0\n2 ant [c0=2,0] c0:=3,0\nend 3\n" }
+    ensures counter { trace counter ≡
+        codes "0 ant [c0=0,0] c0:=1,0\n1 ant [c0=1,0] c0:=2,0\n2 ant [c0=2,0] c0:=3,0\nend 3\n" }
     ensures write_first { trace tie_write_first ≡ codes "0 w c0:=5,0\n0 r [c0=5,0]\nend 2\n" }
     ensures read_first { trace tie_read_first ≡ codes "0 r [c0=0,0]\n0 w c0:=5,0\nend 2\n" }
 {}

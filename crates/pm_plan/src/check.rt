@@ -1,7 +1,9 @@
 ghost use Rattle.std.specs.Prelude.{◌≡◌, ◌<◌, ◌^◌, ◌⊎◌, length, map, Result, Ok, Err, option_map};
 ghost use Rattle.std.specs.List.{list_any};
 ghost use Rattle.pm_plan.specs.Numbers.{first_wrong, first_repeat};
-ghost use Rattle.pm_plan.specs.Plans.{all_vars, parents, is_past, starts_late, count_refusal, is_late, refused_if, of_names, first_off_tree, first_nowhere, place_refusal, later_refusal, passed, IsFew};
+ghost use Rattle.pm_plan.specs.Plans.{all_vars, parents, is_past, starts_late, count_refusal, is_late, refused_if};
+ghost use Rattle.pm_plan.specs.Plans.{of_names, first_off_tree, first_nowhere, place_refusal, later_refusal, passed};
+ghost use Rattle.pm_plan.specs.Plans.{IsFew};
 ghost use Rattle.pm_plan.specs.declared.fault.PlanFault.TheVariants as fault;
 ghost use Rattle.pm_plan.specs.declared.plan.Kind.TheVariants as kind;
 

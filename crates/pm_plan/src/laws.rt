@@ -1,6 +1,7 @@
 //! Laws of plans and of their trees, for proofs: each function does nothing, and its contract is the law.
 
-ghost use Rattle.std.specs.Prelude.{◌≡◌, ◌≢◌, ◌<◌, ◌≤◌, ◌+◌, ◌^◌, ◌⊎◌, ℕ, List, [], ◌∷◌, length, map, reverse, slice_index, true, Some, None, Ok, Err, codes};
+ghost use Rattle.std.specs.Prelude.{◌≡◌, ◌≢◌, ◌<◌, ◌≤◌, ◌+◌, ◌^◌, ◌⊎◌, ℕ, List};
+ghost use Rattle.std.specs.Prelude.{[], ◌∷◌, length, map, reverse, slice_index, true, Some, None, Ok, Err, codes};
 ghost use Rattle.std.specs.List.{list_all};
 ghost use Rattle.pm_base.specs.Fits.{fits};
 ghost use Rattle.pm_plan.specs.declared.plan.AgentRow.{AgentRow as TheAgent};
@@ -19,7 +20,8 @@ pub fn path_is_the_only_one(plan: &Plan, from: u32, to: u32)
     requires from { from < length plan.now.clps }
     requires to { to < length plan.now.clps }
     ensures path { IsPath (parents plan.now.clps) from to (path (parents plan.now.clps) from to) }
-    ensures only { (xs : List ℕ) → IsPath (parents plan.now.clps) from to xs → xs ≡ path (parents plan.now.clps) from to }
+    ensures only { (xs : List ℕ) → IsPath (parents plan.now.clps) from to xs →
+        xs ≡ path (parents plan.now.clps) from to }
 {}
 
 /// A hop goes one edge nearer.
@@ -136,12 +138,18 @@ pub fn rows_of_trees()
 /// Worked rows of the plan of parts: one plan with its own parts, and the first refusals where a later one holds too.
 #[tactic(auto, unfolding(crate::specs::Plans::plan_of, crate::specs::Plans::own_parts, crate::specs::Plans::numbered, crate::specs::Plans::refusal, crate::specs::Plans::later_refusal, crate::specs::Plans::first_off_tree, crate::specs::Plans::first_nowhere, crate::specs::Numbers::number_of, crate::specs::Numbers::first_wrong, crate::specs::Numbers::first_repeat, pm_base::specs::Names::is_name))]
 pub fn rows_of_plans()
-    ensures made { plan_of (parts (clp (codes "top") None ∷ clp (codes "low") (Some (codes "top")) ∷ []) (codes "low")) ≡ Ok two }
-    ensures own { own_parts two ≡ parts (clp (codes "top") None ∷ clp (codes "low") (Some (codes "top")) ∷ []) (codes "low") }
+    ensures made { plan_of (parts (clp (codes "top") None ∷ clp (codes "low") (Some (codes "top")) ∷ []) (codes "low")) ≡
+        Ok two }
+    ensures own { own_parts two ≡
+        parts (clp (codes "top") None ∷ clp (codes "low") (Some (codes "top")) ∷ []) (codes "low") }
     ensures limit { plan_of (parts [] (codes "low")) ≡ Err (fault.Limit kind.Clp) }
-    ensures name { plan_of (parts (clp (codes "top") None ∷ clp (codes "top") None ∷ clp (codes "2") None ∷ []) (codes "low")) ≡ Err (fault.Name kind.Clp 2) }
-    ensures twice { plan_of (parts (clp (codes "top") None ∷ clp (codes "top") None ∷ []) (codes "low")) ≡ Err (fault.Twice kind.Clp 1) }
-    ensures tree { plan_of (parts (clp (codes "top") None ∷ clp (codes "low") (Some (codes "low")) ∷ []) (codes "up")) ≡ Err (fault.Tree 1) }
+    ensures name { plan_of (parts
+        (clp (codes "top") None ∷ clp (codes "top") None ∷ clp (codes "2") None ∷ []) (codes "low")) ≡
+        Err (fault.Name kind.Clp 2) }
+    ensures twice { plan_of (parts (clp (codes "top") None ∷ clp (codes "top") None ∷ []) (codes "low")) ≡
+        Err (fault.Twice kind.Clp 1) }
+    ensures tree { plan_of (parts (clp (codes "top") None ∷ clp (codes "low") (Some (codes "low")) ∷ []) (codes "up")) ≡
+        Err (fault.Tree 1) }
     ensures place { plan_of (parts (clp (codes "up") None ∷ []) (codes "low")) ≡ Err (fault.Place kind.Var 0) }
     ensures home { plan_of (parts (clp (codes "low") None ∷ []) (codes "low")) ≡ Err (fault.Place kind.Agent 0) }
 {}

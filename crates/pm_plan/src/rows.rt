@@ -1,4 +1,5 @@
-ghost use Rattle.std.specs.Prelude.{◌≡◌, [], ◌∷◌, ◌++◌, ◌+◌, ◌<◌, ◌^◌, List as Seq, ℕ, length, map, IfOk, OnOk};
+ghost use Rattle.std.specs.Prelude.{◌≡◌, [], ◌∷◌, ◌++◌, ◌+◌, ◌<◌, ◌^◌, List as Seq, ℕ};
+ghost use Rattle.std.specs.Prelude.{length, map, IfOk, OnOk};
 ghost use Rattle.pm_plan.specs.Directories.{KnowsNames};
 ghost use Rattle.pm_plan.specs.Plans.{all_vars, class_rows, clp_row, var_row, agent_row, numbered};
 
@@ -49,7 +50,8 @@ fn agent_row(clps: &Directory, part: AgentPart) -> AgentRow
 }
 
 fn clp_rows(alloc: Global, clps: &Directory, parts: List<ClpPart>) -> Result<List<ClpRow>, Memory>
-    ensures { (names : Seq (Seq ℕ)) → KnowsNames clps.now names → IfOk result (λ rows. rows ≡ map (clp_row names) parts) }
+    ensures { (names : Seq (Seq ℕ)) → KnowsNames clps.now names →
+        IfOk result (λ rows. rows ≡ map (clp_row names) parts) }
 {
     let mut rows = List::new(alloc);
     for part in parts.into_vec() {
@@ -63,7 +65,8 @@ fn agent_rows(
     clps: &Directory,
     parts: List<AgentPart>,
 ) -> Result<List<AgentRow>, Memory>
-    ensures { (names : Seq (Seq ℕ)) → KnowsNames clps.now names → IfOk result (λ rows. rows ≡ map (agent_row names) parts) }
+    ensures { (names : Seq (Seq ℕ)) → KnowsNames clps.now names →
+        IfOk result (λ rows. rows ≡ map (agent_row names) parts) }
 {
     let mut rows = List::new(alloc);
     for part in parts.into_vec() {

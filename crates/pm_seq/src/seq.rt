@@ -103,7 +103,8 @@ impl<'a> Seq<'a> {
         ensures plan { self.new.plan ≡ self.old.plan }
         ensures moved { IfOk result (λ r. MatchOption r
             ((sequential_turn self.old.plan self.old.state ≡ None) × (self.new ≡ self.old))
-            (λ e. sequential_turn self.old.plan self.old.state ≡ Some (record { entry = e; state = self.new.state }))) }
+            (λ e. sequential_turn self.old.plan self.old.state ≡
+            Some (record { entry = e; state = self.new.state }))) }
         ensures kept { OnErr result (self.new ≡ self.old) }
         ensures retired { IfOk result (λ r. (r ≡ None) ↔ AllByRecursion IsRetired self.old.state.agents) }
         ensures left { IfOk result (λ r. MatchOption r (rest self.old.plan self.old.state ≡ [])

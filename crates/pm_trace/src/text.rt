@@ -1,7 +1,8 @@
 ghost use Rattle.std.specs.Prelude.{◌≡◌, ◌++◌, ℤ, IfOk, OnOk, codes, decimal};
 ghost use Rattle.std.specs.Fmt.{signed_decimal};
 ghost use Rattle.std.specs.List.{flat_map};
-ghost use Rattle.pm_model.specs.Traces.{var_name, agent_name, value_text, hit_text, hits_text, answer_text, change_text, write_text, line, end_line};
+ghost use Rattle.pm_model.specs.Traces.{var_name, agent_name, value_text, hit_text, hits_text, answer_text};
+ghost use Rattle.pm_model.specs.Traces.{change_text, write_text, line, end_line};
 
 use itoa::Buffer;
 use pm_base::{Change, Entry, Hit, List, Memory, Value, Write};
@@ -64,7 +65,8 @@ fn add_hit(out: &mut Vec<u8>, plan: &Plan, hit: Hit) -> Result<(), Memory>
 }
 
 fn add_more_hits(out: &mut Vec<u8>, plan: &Plan, hits: &[Hit]) -> Result<(), Memory>
-    ensures { OnOk result (out.new.items ≡ out.old.items ++ flat_map (λ h. codes ";" ++ hit_text plan.now h) hits.now) }
+    ensures { OnOk result (out.new.items ≡
+        out.old.items ++ flat_map (λ h. codes ";" ++ hit_text plan.now h) hits.now) }
 {
     for hit in hits {
         add(out, b";")?;
