@@ -207,6 +207,50 @@ fn devices_words_and_texts(rt: HostRuntime) -> Result<(), Fail> {
     Ok(())
 }
 
+/// One byte at each of so many calls, and then this.
+fn bytes_and_then(alloc: Global, calls: usize, last: Cue) -> Result<Vec<Cue>, AllocError> {
+    let mut cues = vec![in alloc; Cue::Take(1); calls]?;
+    cues.push(last)?;
+    Ok(cues)
+}
+
+#[test]
+fn a_take_that_fails_after_each_byte(rt: HostRuntime) -> Result<(), Fail> {
+    let alloc = rt.alloc();
+    let words = words_of(alloc, &["seq"])?;
+    for taken in 0..COUNTER.len() + 1 {
+        let bytes = Vec::from_slice(alloc, COUNTER.as_bytes())?;
+        let mut input = MemSource::new(bytes, bytes_and_then(alloc, taken, Cue::Fail)?);
+        let mut out = MemSink::new(alloc, Vec::new(alloc));
+        let mut err = MemSink::new(alloc, Vec::new(alloc));
+        let report = plain(alloc, &words, &mut input, &mut out, &mut err);
+        assert_eq!(rt; report.status, 4, "{taken}");
+        assert!(rt; out.bytes().is_empty(), "{taken}");
+        assert!(rt; err.bytes() == READ_FAULT.as_bytes(), "{taken}");
+    }
+    Ok(())
+}
+
+#[test]
+fn a_put_that_fails_after_each_byte(rt: HostRuntime) -> Result<(), Fail> {
+    let alloc = rt.alloc();
+    let words = words_of(alloc, &["seq"])?;
+    for last in [Cue::Fail, Cue::Take(0)] {
+        for given in 0..TRACE.len() {
+            let bytes = Vec::from_slice(alloc, COUNTER.as_bytes())?;
+            let mut input = MemSource::new(bytes, Vec::new(alloc));
+            let mut out = MemSink::new(alloc, bytes_and_then(alloc, given, last)?);
+            let mut err = MemSink::new(alloc, Vec::new(alloc));
+            let report = plain(alloc, &words, &mut input, &mut out, &mut err);
+            assert_eq!(rt; report.status, 5, "{given}");
+            assert_eq!(rt; out.bytes().len(), given);
+            assert!(rt; TRACE.as_bytes().starts_with(out.bytes()), "{given}");
+            assert!(rt; err.bytes() == WRITE_FAULT.as_bytes(), "{given}");
+        }
+    }
+    Ok(())
+}
+
 #[test]
 fn a_scenario_past_the_limit(rt: HostRuntime) -> Result<(), Fail> {
     let alloc = rt.alloc();
