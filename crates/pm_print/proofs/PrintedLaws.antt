@@ -10,7 +10,8 @@ use Rattle.pm_rules.specs.Nesting.{AreFine, all_said, draft_of}
 use Rattle.pm_print.specs.Printing.{IsNamed, numbered, program_sized}
 use Rattle.pm_rules.specs.Reading.{Table}
 use Rattle.pm_rules.specs.Rules.{empty, parsed, scope_of, with_said}
-use Rattle.pm_rules.specs.Spelling.{printed, program_says, program_scope, spell_said}
+use Rattle.pm_rules.specs.Spelling.{program_says, program_scope, spell_said}
+use Rattle.pm_print.specs.Printed.{printed}
 use Rattle.pm_tokens.specs.Tokens.{Tok}
 use Rattle.pm_rules.specs.declared.draft.Draft.{Draft}
 use Rattle.pm_rules.specs.declared.said.Said.{Said}

@@ -12,7 +12,8 @@ use Rattle.pm_tokens.specs.Lexing.{is_digit}
 use Rattle.pm_tokens.specs.Lines.{lines_of, IsOneLine, without_return, code_len, code}
 use Rattle.pm_print.specs.Printing.{IsWritable, AreWritable}
 use Rattle.pm_rules.specs.Reading.{Scope, Table}
-use Rattle.pm_rules.specs.Spelling.{symbol_text, token_text, joins_right, joins_left, gap, text_behind, line_text, spell_said, said_text, program_says, program_scope, printed}
+use Rattle.pm_rules.specs.Spelling.{spell_said, program_says, program_scope}
+use Rattle.pm_print.specs.Printed.{symbol_text, token_text, joins_right, joins_left, gap, text_behind, line_text, said_text, printed}
 use Rattle.pm_tokens.specs.Tokens.{Tok, name, number, symbol}
 use Rattle.pm_rules.specs.declared.said.Said.{Said}
 use Rattle.pm_tokens.specs.declared.token.Symbol.{Symbol}

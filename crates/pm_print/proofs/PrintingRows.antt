@@ -7,7 +7,8 @@ use Rattle.pm_tokens.specs.Lexing.{lex}
 use Rattle.pm_tokens.specs.Lines.{code, lines_of}
 use Rattle.pm_print.specs.Printing.{AreWritable, AreWritten, IsWritten, numbered}
 use Rattle.pm_rules.specs.Reading.{Scope, Table}
-use Rattle.pm_rules.specs.Spelling.{line_text, printed, program_says, program_scope, spell_said}
+use Rattle.pm_rules.specs.Spelling.{program_says, program_scope, spell_said}
+use Rattle.pm_print.specs.Printed.{line_text, printed}
 use Rattle.pm_tokens.specs.Tokens.{Tok}
 use Rattle.pm_rules.specs.declared.said.Said.{Said}
 use Rattle.pm_print.proofs.PrintingLines.{code-line_text, lines-printed}

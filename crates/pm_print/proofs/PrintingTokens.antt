@@ -8,7 +8,7 @@ use Rattle.std.proofs.lemmas.Bool.Decides.{nat_tests}
 use Rattle.pm_base.specs.Names.{is_lower, is_word, is_name}
 use Rattle.pm_tokens.specs.Lexing.{is_digit, is_blank, word, positive, negative, mark, token, lex_from, lex}
 use Rattle.pm_print.specs.Printing.{IsWritable}
-use Rattle.pm_rules.specs.Spelling.{token_text, joins_right, joins_left, gap, text_behind, line_text}
+use Rattle.pm_print.specs.Printed.{token_text, joins_right, joins_left, gap, text_behind, line_text}
 use Rattle.pm_tokens.specs.Tokens.{Tok, name, number, symbol}
 use Rattle.pm_tokens.specs.declared.token.Symbol.{Symbol}
 use Rattle.pm_tokens.specs.declared.token.Symbol.TheVariants as sym

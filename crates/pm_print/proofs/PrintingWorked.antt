@@ -13,7 +13,8 @@ use Rattle.pm_base.specs.declared.program.Stmt.TheOpen.{Stmt-F}
 use Rattle.pm_base.specs.declared.program.Stmt.TheVariants as stmt
 use Rattle.pm_rules.specs.Reading.{Scope}
 use Rattle.pm_rules.specs.Samples.{worked_printed, worked_program, worked_table}
-use Rattle.pm_rules.specs.Spelling.{concat, else_said, field_word, name_in, op_token, printed, says, says_step, spell, spell_change, spell_does, spell_does_step}
+use Rattle.pm_rules.specs.Spelling.{concat, else_said, field_word, name_in, op_token, says, says_step, spell, spell_change, spell_does, spell_does_step}
+use Rattle.pm_print.specs.Printed.{printed}
 use Rattle.pm_tokens.specs.Tokens.{Tok, name, number, symbol}
 use Rattle.pm_rules.specs.declared.said.Said.{Said}
 use Rattle.pm_rules.specs.declared.said.Said.TheVariants as said

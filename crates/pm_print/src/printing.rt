@@ -6,7 +6,8 @@ ghost use Rattle.pm_rules.specs.Grammar.{IsTable};
 ghost use Rattle.pm_rules.specs.Rules.{parsed};
 ghost use Rattle.pm_print.specs.Printing.{IsNamed, change_sized, else_text, in_i64, is_sized, piece_tok, pieces, place_sized, program_sized, regs_sized, scope_of, sense_sized, senses_sized, stmt_sized, stmts_sized};
 ghost use Rattle.pm_rules.specs.Reading.{class_names, class_rows};
-ghost use Rattle.pm_rules.specs.Spelling.{field_word, gap, joins_left, joins_right, line_text, name_in, op_token, printed, program_scope, reg_said, said_text, says, says_all, sense_said, spell, spell_change, spell_place, spell_said, spell_sense, symbol_text, text_behind, token_text};
+ghost use Rattle.pm_rules.specs.Spelling.{field_word, name_in, op_token, program_scope, reg_said, says, says_all, sense_said, spell, spell_change, spell_place, spell_said, spell_sense};
+ghost use Rattle.pm_print.specs.Printed.{gap, joins_left, joins_right, line_text, printed, said_text, symbol_text, text_behind, token_text};
 ghost use Rattle.pm_tokens.specs.Tokens.{name, number, symbol};
 ghost use Rattle.pm_rules.specs.declared.said.Said.TheVariants as said;
 ghost use Rattle.pm_tokens.specs.declared.token.Symbol.TheVariants as sym;
@@ -532,7 +533,7 @@ fn print_senses<'a>(page: &mut Page<'a>, words: &Words<'a>) -> Result<(), Memory
 
 /// The printed form of a program over these classes and variables: one statement a line, each ended by a line feed.
 /// A number that has no name is written as nothing.
-#[tactic(auto, unfolding(pm_rules::specs::Spelling::printed))]
+#[tactic(auto, unfolding(crate::specs::Printed::printed))]
 fn print_with(
     alloc: Global,
     program: &Program,

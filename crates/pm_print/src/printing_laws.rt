@@ -9,7 +9,8 @@ ghost use Rattle.pm_print.specs.Printing.{AreWritable, AreWritten, IsNamed, numb
 ghost use Rattle.pm_rules.specs.Reading.{Table, class_rows};
 ghost use Rattle.pm_rules.specs.Rules.{parsed};
 ghost use Rattle.pm_rules.specs.Samples.{worked_printed, worked_program, worked_table};
-ghost use Rattle.pm_rules.specs.Spelling.{line_text, printed, program_says, program_scope, spell_said};
+ghost use Rattle.pm_rules.specs.Spelling.{program_says, program_scope, spell_said};
+ghost use Rattle.pm_print.specs.Printed.{line_text, printed};
 ghost use Rattle.pm_tokens.specs.Tokens.{Tok};
 
 /// Laws of the printed form of tokens: the text of a line's tokens is one line without a comment, and is cut into

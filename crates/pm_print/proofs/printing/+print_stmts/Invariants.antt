@@ -1,7 +1,8 @@
 use Rattle.std.proofs.Common.{◌≡◌, ◌++◌, drop, string_bytes}
 use Rattle.std.specs.List.{flat_map}
 use Rattle.pm_print.specs.Printing.{scope_of, stmts_sized}
-use Rattle.pm_rules.specs.Spelling.{said_text, says_all}
+use Rattle.pm_rules.specs.Spelling.{says_all}
+use Rattle.pm_print.specs.Printed.{said_text}
 use Rattle.pm_print.proofs.printing.+print_stmts.Given as goal
 
 abbrev pub invariant-print_stmts-loop-stmt : goal.invariant-print_stmts-loop-stmt

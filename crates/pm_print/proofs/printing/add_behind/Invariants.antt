@@ -1,6 +1,6 @@
 use Rattle.std.proofs.Common.{◌≡◌, ◌++◌, drop, string_bytes}
 use Rattle.pm_print.specs.Printing.{piece_tok, pieces}
-use Rattle.pm_rules.specs.Spelling.{text_behind}
+use Rattle.pm_print.specs.Printed.{text_behind}
 use Rattle.pm_print.proofs.printing.add_behind.Given as goal
 
 abbrev pub invariant-loop-piece : goal.invariant-loop-piece

@@ -1,7 +1,8 @@
 use Rattle.std.proofs.Common.{◌≡◌, ◌++◌, drop, string_bytes}
 use Rattle.std.specs.List.{flat_map}
 use Rattle.pm_print.specs.Printing.{scope_of, senses_sized}
-use Rattle.pm_rules.specs.Spelling.{said_text, sense_said}
+use Rattle.pm_rules.specs.Spelling.{sense_said}
+use Rattle.pm_print.specs.Printed.{said_text}
 use Rattle.pm_print.proofs.printing.print_senses.Given as goal
 
 abbrev pub invariant-loop-row : goal.invariant-loop-row
