@@ -1,14 +1,15 @@
 -- What is printed of a scenario that the input held.
 use Rattle.std.proofs.Common.{◌≡◌, ℕ, ◌≤◌, List, length, Option, Some, None, IfSome, Result, Ok, Err, IfOk, sym, ap, subst, arith, length-append}
-use Rattle.pm_io.specs.Causes.{AppendsPrefix}
+use Rattle.pm_io.specs.Causes.{AppendsPart, AppendsPrefix}
 use Rattle.pm_io.proofs.Known.{prefix-none, consumes-all}
 use Rattle.pm_plan.specs.declared.plan.Plan.{Plan}
 use Rattle.pm_scenario.specs.Scenarios.{plan_of}
 use Rattle.pm_scenario.specs.declared.fault.ScenarioFault.{ScenarioFault}
 use Rattle.pm_top.specs.Outputs.{output}
 use Rattle.pm_top.specs.declared.mode.Mode.{Mode}
-use Rattle.pm_top.specs.Headline.{PrintsPrefix, IsAccepted, IsRefused, IsTooLong}
+use Rattle.pm_top.specs.Headline.{PrintsPart, PrintsPrefix, IsAccepted, IsRefused, IsTooLong}
 use Rattle.pm_top.specs.Readings.{IsReadWhole, IsReadPast}
+use Rattle.pm_top.proofs.Written.{output-some, part-none}
 
 of-plan : (m : Mode) (o : Result Plan ScenarioFault) (old : Option (List ℕ)) → IfOk o (λ p. AppendsPrefix old old (output m p))
 of-plan m (Err f) old = tt
@@ -18,6 +19,15 @@ of-plan m (Ok p) old = prefix-none old (output m p)
 pub prints-none : (m : Mode) (held old : Option (List ℕ)) → PrintsPrefix m held old old
 prints-none m None old = tt
 prints-none m (Some b) old = of-plan m (plan_of b) old
+
+short-of-plan : (m : Mode) (o : Result Plan ScenarioFault) (old : Option (List ℕ)) → IfOk o (λ p. AppendsPart old old (output m p))
+short-of-plan m (Err f) old = tt
+short-of-plan m (Ok p) old = part-none old (output m p) (output-some m p)
+
+-- nothing lacks a byte of any output
+pub prints-short : (m : Mode) (held old : Option (List ℕ)) → PrintsPart m held old old
+prints-short m None old = tt
+prints-short m (Some b) old = short-of-plan m (plan_of b) old
 
 pub prints-prefix : (m : Mode) (b : List ℕ) (p : Plan) (old new : Option (List ℕ)) → plan_of b ≡ Ok p → AppendsPrefix old new (output m p) →
     PrintsPrefix m (Some b) old new

@@ -1,5 +1,5 @@
 -- What a run has written so far.
-use Rattle.std.proofs.Common.{◌≡◌, ℕ, zero, suc, ◌+◌, ◌<◌, List, [], ◌∷◌, ◌++◌, length, length-append, take, Option, refl, sym, ap, ◌∙◌, append_assoc, append-nil, arith}
+use Rattle.std.proofs.Common.{◌≡◌, ℕ, zero, suc, ◌+◌, ◌<◌, List, [], ◌∷◌, ◌++◌, length, length-append, take, codes, decimal, Option, refl, sym, ap, ◌∙◌, append_assoc, append-nil, arith}
 use Rattle.std.proofs.lemmas.Grind.{flat_map-append}
 use Rattle.std.proofs.lemmas.List.{take_at, take-append-le}
 use Rattle.std.specs.Io.KnownBytes.{Appends}
@@ -8,7 +8,54 @@ use Rattle.pm_plan.specs.declared.plan.Plan.{Plan}
 use Rattle.pm_model.specs.Runs.{sequential_run}
 use Rattle.pm_model.specs.Traces.{line, trace_text, end_line, trace}
 use Rattle.pm_io.specs.Causes.{AppendsPart, AppendsPrefix}
-use Rattle.pm_io.proofs.Known.{appends-append, appends-none, prefix-part, prefix-none, prefix-more, prefix-after}
+use Rattle.pm_io.proofs.Known.{appends-append, appends-none, prefix-part, prefix-none, prefix-after}
+use Rattle.pm_top.specs.Outputs.{check_line, output}
+use Rattle.pm_top.specs.declared.mode.Mode.{Mode}
+use Rattle.pm_top.specs.declared.mode.Mode.TheVariants as mode
+
+more-some : (xs ys : List ℕ) → 0 < length xs → 0 < length (xs ++ ys)
+more-some xs ys some = omega (arith, some, length-append xs ys)
+
+-- the end line is never empty
+pub end-some : (n : ℕ) → 0 < length (end_line n)
+end-some n =
+    let four : length (codes "end ") ≡ 4 = refl in
+    more-some (codes "end ") (decimal n ++ codes "\n") (omega (arith, four))
+
+pub check-some : (p : Plan) → 0 < length (check_line p)
+check-some p =
+    let eight : length (codes "ok clps ") ≡ 8 = refl in
+    more-some (codes "ok clps " ++ decimal (length p.clps)) _ (more-some (codes "ok clps ") (decimal (length p.clps)) (omega (arith, eight)))
+
+-- no output is empty
+pub output-some : (m : Mode) (p : Plan) → 0 < length (output m p)
+output-some mode.Seq p = omega (arith, end-some (length (sequential_run p)), length-append (trace_text p (sequential_run p)) (end_line (length (sequential_run p))))
+output-some mode.Check p = check-some p
+
+-- nothing lacks a byte of what isn't empty
+pub part-none : (old : Option (List ℕ)) (bytes : List ℕ) → 0 < length bytes → AppendsPart old old bytes
+part-none old bytes some = (0, some, appends-none old)
+
+take-over : (xs ys zs : List ℕ) (k : ℕ) → k < length ys → take (length xs + k) (xs ++ (ys ++ zs)) ≡ xs ++ take k ys
+take-over [] ys zs k lt =
+    let e : 0 + k ≡ k = omega arith in
+    ap (λ n. take n (ys ++ zs)) e ∙ take-append-le k ys zs (omega (arith, lt))
+take-over (x ∷ xs) ys zs k lt =
+    let e : length (x ∷ xs) + k ≡ suc (length xs + k) = omega arith in
+    ap (λ n. take n (x ∷ (xs ++ (ys ++ zs)))) e ∙ ap (λ v. x ∷ v) (take-over xs ys zs k lt)
+
+-- what lacks a byte of a later part lacks a byte of the whole
+part-within : (old now new : Option (List ℕ)) (xs ys zs : List ℕ) → Appends old now xs → AppendsPart now new ys → AppendsPart old new (xs ++ (ys ++ zs))
+part-within old now new xs ys zs a p = (
+  length xs + p.0,
+  omega (arith, p.1, length-append xs (ys ++ zs), length-append ys zs),
+  rw (take-over xs ys zs p.0 p.1) (appends-append old now new xs (take p.0 ys) a p.2),
+)
+
+-- all of a first part lacks a byte of the whole, where more follows
+part-first : (old now : Option (List ℕ)) (xs ys : List ℕ) → Appends old now xs → 0 < length ys → AppendsPart old now (xs ++ ys)
+part-first old now xs ys a some =
+    (length xs, omega (arith, some, length-append xs ys), rw (take_at xs ys (length xs) refl) a)
 
 -- the lines of the first steps were written, and these entries are left
 pub record IsSoFar (plan : Plan) (left : List Entry) (old now : Option (List ℕ)) (steps : ℕ) : Type 0 where
@@ -62,14 +109,29 @@ pub sofar-stop : (plan : Plan) (left : List Entry) (old now : Option (List ℕ))
 sofar-stop plan left old now n so =
     rw (trace-from plan left old now n so) (prefix-after old now now (trace_text plan so.entries) _ so.grew (prefix-none now _))
 
-pub sofar-fault : (plan : Plan) (e : Entry) (es : List Entry) (old now new : Option (List ℕ)) (n : ℕ)
-    → IsSoFar plan (e ∷ es) old now n → AppendsPart now new (line plan e) → AppendsPrefix old new (trace plan)
-sofar-fault plan e es old now new n so w =
+-- what is left of the trace where the run stopped
+pub sofar-short : (plan : Plan) (left : List Entry) (old now : Option (List ℕ)) (n : ℕ) → IsSoFar plan left old now n → AppendsPart old now (trace plan)
+sofar-short plan left old now n so =
+    rw (trace-from plan left old now n so) (part-first old now (trace_text plan so.entries) (trace_text plan left ++ end_line (length (sequential_run plan))) so.grew
+    (omega (arith, end-some (length (sequential_run plan)), length-append (trace_text plan left) (end_line (length (sequential_run plan))))))
+
+-- the same where a part of the end line was written
+pub sofar-tail : (plan : Plan) (old now new : Option (List ℕ)) (n : ℕ) → IsSoFar plan [] old now n → AppendsPart now new (end_line n) → AppendsPart old new (trace plan)
+sofar-tail plan old now new n so w =
+    rw (trace-end plan old now n so) (rw (append-nil (end_line n)) at (part-within old now new (trace_text plan so.entries) (end_line n) [] so.grew w))
+
+-- the same where a part of a step's line was written
+pub sofar-cut : (plan : Plan) (e : Entry) (es : List Entry) (old now new : Option (List ℕ)) (n : ℕ)
+    → IsSoFar plan (e ∷ es) old now n → AppendsPart now new (line plan e) → AppendsPart old new (trace plan)
+sofar-cut plan e es old now new n so w =
     let tail = trace_text plan es ++ end_line (length (sequential_run plan)) in
     let step : trace_text plan (e ∷ es) ++ end_line (length (sequential_run plan)) ≡ line plan e ++ tail =
     append_assoc (line plan e) (trace_text plan es) (end_line (length (sequential_run plan))) in
-    rw (trace-from plan (e ∷ es) old now n so, step)
-    (prefix-after old now new (trace_text plan so.entries) (line plan e ++ tail) so.grew (prefix-more now new (line plan e) tail (prefix-part now new (line plan e) w)))
+    rw (trace-from plan (e ∷ es) old now n so, step) (part-within old now new (trace_text plan so.entries) (line plan e) tail so.grew w)
+
+pub sofar-fault : (plan : Plan) (e : Entry) (es : List Entry) (old now new : Option (List ℕ)) (n : ℕ)
+    → IsSoFar plan (e ∷ es) old now n → AppendsPart now new (line plan e) → AppendsPrefix old new (trace plan)
+sofar-fault plan e es old now new n so w = prefix-part old new (trace plan) (sofar-cut plan e es old now new n so w)
 
 -- the run is longer than what was done, whose lines were written
 spent-by : (plan : Plan) (left : List Entry) (old now : Option (List ℕ)) (n : ℕ) (so : IsSoFar plan left old now n) → (left ≡ [] → ⊥) → n < length (sequential_run plan)
@@ -90,22 +152,6 @@ take-past (x ∷ xs) ys y n zero e lt = absurd (omega (arith, lt))
 take-past (x ∷ xs) ys y n (suc b) e lt =
     let r = take-past xs ys y (length xs) b refl (omega (arith, e, lt)) in
     (r.0, ap (λ v. x ∷ v) r.1)
-
-take-over : (xs ys zs : List ℕ) (k : ℕ) → k < length ys → take (length xs + k) (xs ++ (ys ++ zs)) ≡ xs ++ take k ys
-take-over [] ys zs k lt =
-    let e : 0 + k ≡ k = omega arith in
-    ap (λ n. take n (ys ++ zs)) e ∙ take-append-le k ys zs (omega (arith, lt))
-take-over (x ∷ xs) ys zs k lt =
-    let e : length (x ∷ xs) + k ≡ suc (length xs + k) = omega arith in
-    ap (λ n. take n (x ∷ (xs ++ (ys ++ zs)))) e ∙ ap (λ v. x ∷ v) (take-over xs ys zs k lt)
-
--- what lacks a byte of a later part lacks a byte of the whole
-part-within : (old now new : Option (List ℕ)) (xs ys zs : List ℕ) → Appends old now xs → AppendsPart now new ys → AppendsPart old new (xs ++ (ys ++ zs))
-part-within old now new xs ys zs a p = (
-  length xs + p.0,
-  omega (arith, p.1, length-append xs (ys ++ zs), length-append ys zs),
-  rw (take-over xs ys zs p.0 p.1) (appends-append old now new xs (take p.0 ys) a p.2),
-)
 
 pub sofar-lacks : (plan : Plan) (e : Entry) (es : List Entry) (old now new : Option (List ℕ)) (n budget : ℕ)
     → IsSoFar plan (e ∷ es) old now n → n < budget → AppendsPart now new (line plan e) → AppendsPart old new (trace_text plan (take budget (sequential_run plan)))

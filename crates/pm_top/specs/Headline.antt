@@ -44,6 +44,10 @@ PrintsAll m budget held old new =
 abbrev pub PrintsPrefix : Mode → Option (List ℕ) → Option (List ℕ) → Option (List ℕ) → Type 0
 PrintsPrefix m held old new = IfSome held (λ b. IfOk (plan_of b) (λ p. AppendsPrefix old new (output m p)))
 
+-- where the input held a scenario, out grew by a part of its output that lacks at least one byte
+abbrev pub PrintsPart : Mode → Option (List ℕ) → Option (List ℕ) → Option (List ℕ) → Type 0
+PrintsPart m held old new = IfSome held (λ b. IfOk (plan_of b) (λ p. AppendsPart old new (output m p)))
+
 -- the input held a scenario of which the mode does more steps than the budget, and out grew by the lines of as many
 -- steps as the budget
 abbrev pub PrintsSpent : Mode → ℕ → Option (List ℕ) → Option (List ℕ) → Option (List ℕ) → Type 0
@@ -108,6 +112,7 @@ pub record IsPrinted (c : Call) (m : Mode) : Type 0 where
   pub done : c.ending ≡ ending.Done → PrintsAll m c.budget c.input.held c.out.holds c.out_after.holds
   pub spent : c.ending ≡ ending.BudgetSpent → PrintsSpent m c.budget c.input.held c.out.holds c.out_after.holds
   pub part : PrintsPrefix m c.input.held c.out.holds c.out_after.holds
+  pub unfinished : c.ending ≢ ending.Done → PrintsPart m c.input.held c.out.holds c.out_after.holds
   pub lacks : c.ending ≡ ending.WriteFault → LacksLines m c.budget c.input.held c.out.holds c.out_after.holds
 
 -- why each ending came

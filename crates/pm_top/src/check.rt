@@ -1,6 +1,6 @@
 ghost use Rattle.std.specs.Prelude.{◌≡◌, ◌≢◌, ◌++◌, ◌⊎◌, ◌≤◌, IfOk, OnOk, codes, decimal, string_bytes};
 ghost use Rattle.std.specs.Io.KnownBytes.{Appends};
-ghost use Rattle.pm_io.specs.Causes.{AppendsPrefix, Rose};
+ghost use Rattle.pm_io.specs.Causes.{AppendsPart, AppendsPrefix, Rose};
 ghost use Rattle.pm_top.specs.Outputs.{check_line};
 
 use crate::run::Ran;
@@ -37,6 +37,7 @@ fn check_line(alloc: Global, plan: &Plan) -> Result<String, Memory>
 pub fn write_check<K: Sink>(alloc: Global, plan: &Plan, out: &mut K) -> Ran
     ensures done { result ≡ Ran.Done → Appends (K.holds out.old) (K.holds out.new) (check_line plan.now) }
     ensures part { AppendsPrefix (K.holds out.old) (K.holds out.new) (check_line plan.now) }
+    ensures unfinished { result ≢ Ran.Done → AppendsPart (K.holds out.old) (K.holds out.new) (check_line plan.now) }
     ensures cause { result ≡ Ran.WriteFault → Rose (K.faults out.old) (K.faults out.new)
         ⊎ Rose (K.stalls out.old) (K.stalls out.new) }
     ensures wrote { result ≢ Ran.BudgetSpent }

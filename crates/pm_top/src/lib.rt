@@ -11,5 +11,5 @@ mod run;
 #[cfg(test)]
 mod tests;
 
-pub use outcome::Ending;
+pub use outcome::{Ending, offer, status_of};
 pub use program::{Report, plain, top};

@@ -1,4 +1,4 @@
-ghost use Rattle.std.specs.Prelude.{◌≡◌, ◌≢◌, ◌⊎◌, ◌≤◌, ◌<◌, [], Some, None, IfSome, Ok, Err, length};
+ghost use Rattle.std.specs.Prelude.{◌≡◌, ◌≢◌, ◌↔◌, ◌⊎◌, ◌≤◌, ◌<◌, [], Some, None, IfSome, Ok, Err, length};
 ghost use Rattle.std.specs.Io.KnownBytes.{Appends, IsAtEnd};
 ghost use Rattle.pm_io.specs.Causes.{AppendsPart, AppendsPrefix, Rose};
 ghost use Rattle.pm_plan.specs.Limits.{IsWithinLimits};
@@ -7,7 +7,7 @@ ghost use Rattle.pm_plan.specs.declared.plan.Plan.{Plan as ThePlan};
 ghost use Rattle.pm_scenario.specs.Scenarios.{plan_of};
 ghost use Rattle.pm_scenario.specs.declared.fault.ScenarioFault.{ScenarioFault as TheFault};
 ghost use Rattle.pm_top.specs.Endings.{status_of};
-ghost use Rattle.pm_top.specs.Headline.{EndsRun, IsAccepted, IsRefused, IsServed, IsTooLong, LacksLines, PrintsAll, PrintsPrefix, PrintsSpent, ReadsAll, WritesNothing};
+ghost use Rattle.pm_top.specs.Headline.{EndsRun, IsAccepted, IsRefused, IsServed, IsTooLong, LacksLines, PrintsAll, PrintsPart, PrintsPrefix, PrintsSpent, ReadsAll, WritesNothing};
 ghost use Rattle.pm_top.specs.Outputs.{first_lines, mode_of, output, steps};
 ghost use Rattle.pm_top.specs.Readings.{IsReadPast};
 
@@ -39,7 +39,7 @@ pub struct Report {
 }
 
 fn ending_of(ran: Ran) -> Ending
-    ensures done { result ≡ Ending.Done → ran ≡ Ran.Done }
+    ensures done { (result ≡ Ending.Done) ↔ (ran ≡ Ran.Done) }
     ensures spent { result ≡ Ending.BudgetSpent → ran ≡ Ran.BudgetSpent }
     ensures fault { result ≡ Ending.WriteFault → ran ≡ Ran.WriteFault }
     ensures ran { EndsRun result }
@@ -61,6 +61,7 @@ fn write_output<K: Sink>(alloc: Global, mode: Mode, plan: &Plan, budget: u64, ou
     ensures spent { result ≡ Ran.BudgetSpent → (budget < steps mode plan.now)
         × Appends (K.holds out.old) (K.holds out.new) (first_lines budget plan.now) }
     ensures part { AppendsPrefix (K.holds out.old) (K.holds out.new) (output mode plan.now) }
+    ensures unfinished { result ≢ Ran.Done → AppendsPart (K.holds out.old) (K.holds out.new) (output mode plan.now) }
     ensures lacks { result ≡ Ran.WriteFault → budget < steps mode plan.now →
         AppendsPart (K.holds out.old) (K.holds out.new) (first_lines budget plan.now) }
     ensures cause { result ≡ Ran.WriteFault → Rose (K.faults out.old) (K.faults out.new)
@@ -80,6 +81,8 @@ fn run_text<K: Sink>(alloc: Global, mode: Mode, bytes: &[u8], budget: u64, out: 
     ensures spent { result ≡ Ending.BudgetSpent →
         PrintsSpent mode budget (Some bytes.now) (K.holds out.old) (K.holds out.new) }
     ensures part { PrintsPrefix mode (Some bytes.now) (K.holds out.old) (K.holds out.new) }
+    ensures unfinished { result ≢ Ending.Done →
+        PrintsPart mode (Some bytes.now) (K.holds out.old) (K.holds out.new) }
     ensures lacks { result ≡ Ending.WriteFault →
         LacksLines mode budget (Some bytes.now) (K.holds out.old) (K.holds out.new) }
     ensures refused { (f : TheFault) → result ≡ Ending.Refused f →
@@ -112,6 +115,8 @@ fn run_mode<S: Source, K: Sink>(
     ensures spent { result ≡ Ending.BudgetSpent →
         PrintsSpent mode budget (S.held input.old) (K.holds out.old) (K.holds out.new) }
     ensures part { PrintsPrefix mode (S.held input.old) (K.holds out.old) (K.holds out.new) }
+    ensures unfinished { result ≢ Ending.Done →
+        PrintsPart mode (S.held input.old) (K.holds out.old) (K.holds out.new) }
     ensures lacks { result ≡ Ending.WriteFault →
         LacksLines mode budget (S.held input.old) (K.holds out.old) (K.holds out.new) }
     ensures nothing { WritesNothing result → out.new ≡ out.old }

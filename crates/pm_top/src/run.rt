@@ -72,6 +72,7 @@ pub fn write_run<K: Sink>(alloc: Global, plan: &Plan, budget: u64, out: &mut K) 
         × Appends (K.holds out.old) (K.holds out.new)
         (trace_text plan.now (take budget (sequential_run plan.now))) }
     ensures part { AppendsPrefix (K.holds out.old) (K.holds out.new) (trace plan.now) }
+    ensures unfinished { result ≢ Ran.Done → AppendsPart (K.holds out.old) (K.holds out.new) (trace plan.now) }
     ensures lacks { result ≡ Ran.WriteFault → budget < length (sequential_run plan.now) →
         AppendsPart (K.holds out.old) (K.holds out.new)
         (trace_text plan.now (take budget (sequential_run plan.now))) }
@@ -103,6 +104,7 @@ pub fn write_run<K: Sink>(alloc: Global, plan: &Plan, budget: u64, out: &mut K) 
 fn write_end<K: Sink>(alloc: Global, steps: u64, out: &mut K) -> Ran
     ensures done { result ≡ Ran.Done → Appends (K.holds out.old) (K.holds out.new) (end_line steps) }
     ensures part { AppendsPrefix (K.holds out.old) (K.holds out.new) (end_line steps) }
+    ensures unfinished { result ≢ Ran.Done → AppendsPart (K.holds out.old) (K.holds out.new) (end_line steps) }
     ensures cause { result ≡ Ran.WriteFault → Rose (K.faults out.old) (K.faults out.new)
         ⊎ Rose (K.stalls out.old) (K.stalls out.new) }
     ensures wrote { result ≢ Ran.BudgetSpent }

@@ -1,7 +1,7 @@
 use Rattle.std.proofs.Common.{Some, subst}
-use Rattle.pm_top.specs.Headline.{EndsRun, IsAccepted, IsRefused, LacksLines, PrintsPrefix, PrintsSpent, PrintsAll}
+use Rattle.pm_top.specs.Headline.{EndsRun, IsAccepted, IsRefused, LacksLines, PrintsPart, PrintsPrefix, PrintsSpent, PrintsAll}
 use Rattle.pm_top.proofs.Endings.{runs-nothing}
-use Rattle.pm_top.proofs.Prints.{accepted-is, held-too-long, of-held, prints-none, refused-is}
+use Rattle.pm_top.proofs.Prints.{accepted-is, held-too-long, of-held, prints-none, prints-short, refused-is}
 use Rattle.pm_top.proofs.program.run_mode.Goals as goal
 
 pub returns-in-Err-Failed-clause-part : goal.returns-in-Err-Failed-clause-part
@@ -61,3 +61,17 @@ returns-clause-read_fault g c = λ h. absurd (subst EndsRun h c.run_text.ensures
 
 pub returns-clause-words : goal.returns-clause-words
 returns-clause-words g c = λ h. subst EndsRun h c.run_text.ensures.ran
+
+pub returns-in-Err-Failed-clause-unfinished : goal.returns-in-Err-Failed-clause-unfinished
+returns-in-Err-Failed-clause-unfinished g c = λ _. prints-short c.args.mode (g.S.Source.held c.args.input.now) (g.K.Sink.holds c.args.out.now)
+
+pub returns-in-Err-TooLong-clause-unfinished : goal.returns-in-Err-TooLong-clause-unfinished
+returns-in-Err-TooLong-clause-unfinished g c = λ _. prints-short c.args.mode (g.S.Source.held c.args.input.now) (g.K.Sink.holds c.args.out.now)
+
+pub returns-in-Err-Memory-clause-unfinished : goal.returns-in-Err-Memory-clause-unfinished
+returns-in-Err-Memory-clause-unfinished g c = λ _. prints-short c.args.mode (g.S.Source.held c.args.input.now) (g.K.Sink.holds c.args.out.now)
+
+pub returns-clause-unfinished : goal.returns-clause-unfinished
+returns-clause-unfinished g c =
+    λ h. of-held (λ b. PrintsPart c.args.mode (Some b) (g.K.Sink.holds c.args.out.now) (g.K.Sink.holds c.run_text.new.out)) (g.S.Source.held c.args.input.now)
+    (g.S.Source.held c.read_whole.new.input) c.in-Ok.bytes.items c.in-Ok.ensures.whole (rw c.as_slice.ensures.value at (c.run_text.ensures.unfinished h))

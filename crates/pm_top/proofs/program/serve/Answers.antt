@@ -33,7 +33,7 @@ returns-clause-served g c =
     let named : mode_of c.args.words.now.items ≡ Some c.in-Some.mode = rw c.as_slice.ensures.value at (sym c.mode_of.ensures ∙ c.in-Some.is) in
     let told : Told e held = record { words = run.words; refused = run.refused; too_long = λ h. (run.too_long h).0; accepted = run.accepted } in
     rw (c.report_of-2.ensures.ending, named) (record {
-      printed = record { done = run.done; spent = run.spent; part = run.part; lacks = run.lacks };
+      printed = record { done = run.done; spent = run.spent; part = run.part; unfinished = run.unfinished; lacks = run.lacks };
       caused = record {
         words = (λ h. absurd (run.words h), λ h. absurd (some-none c.in-Some.mode h));
         refused = run.refused;
