@@ -2,13 +2,10 @@
 #![tactic(auto)]
 
 use pm_io::{FreeGate, StdSink, StdSource};
-use pm_top::top;
+use pm_top::{Ending, offer, status_of, top};
 use std::process::ExitCode;
 use std::rt::Env;
 use std::{env, io};
-
-/// The status where the words can't be had for want of memory.
-const MEMORY: u8 = 6;
 
 /// The words after the program's name.
 fn words(rt: &(impl Env + AllocGlobal)) -> io::Result<Vec<String>> {
@@ -20,12 +17,13 @@ fn words(rt: &(impl Env + AllocGlobal)) -> io::Result<Vec<String>> {
 }
 
 fn main(rt: HostRuntime) -> ExitCode {
+    let mut err = StdSink::new(rt.stderr());
     let Ok(words) = words(&rt) else {
-        return ExitCode::from(MEMORY);
+        offer(&mut err, &Ending::Memory);
+        return ExitCode::from(status_of(&Ending::Memory));
     };
     let mut input = StdSource::new(rt.stdin());
     let mut out = StdSink::new(rt.stdout());
-    let mut err = StdSink::new(rt.stderr());
     let report = top(
         &rt,
         rt.alloc(),
