@@ -135,18 +135,18 @@ pub has_held : (n : Num) (hs : List Held) → has_num held_key n hs ≡ has_num 
 has_held n [] = refl
 has_held n (h ∷ hs) = ap (λ b. num_eq n h.row.num || b) (has_held n hs)
 
--- what the code knows after a put: `known`, `dead` and the lists that it read stand for what they were found to be
+-- what the code knows after a put: `known`, the marked put and the lists that it read stand for what they were found to be
 pub put_whole : (i : Inside) → IsSound i → (p : PutRow)
     → (xs : List Held) → xs ≡ i.puts.items → (known : Bool) → known ≡ has_num held_key p.num xs → known ≡ false
-    → (cs : List CutRow) → cs ≡ i.cuts.items → (dead : Bool) → dead ≡ has_num cut_key p.num cs
+    → (cs : List CutRow) → cs ≡ i.cuts.items → (held : Held) → held ≡ marked cs p
     → (qs : List ReadRow) → qs ≡ i.reads.items → (n : ℕ) → All (λ q. stamp_lt p.stamp q.stamp ≡ false) (take n qs)
-    → (hs' : List Held) → hs' ≡ add_row held_key (record { row = p; live = not dead }) i.puts.items
+    → (hs' : List Held) → hs' ≡ add_row held_key held i.puts.items
     → (ys : List Held) → ys ≡ hs' → (reads' : List ReadRow) → reads' ≡ take n i.reads.items ++ map (fresh_read (seen_by ys i.base)) (drop n i.reads.items)
     → (none given gives : List GiveRow) → none ≡ [] → given ≡ none ++ changed_of i.var (seen_by ys i.base) (drop n i.reads.items) → gives ≡ given
     → (parts_by i.base hs' i.cuts.items reads' ≡ after_put p (parts_of i)) × (gives ≡ gives_of_put i.var p (parts_of i)) × IsSettled (parts_by i.base hs' i.cuts.items reads') × (hs' ≡ map (marked i.cuts.items) (map held_row hs'))
-put_whole i s p xs is_xs known told new cs is_cs dead told_dead qs is_qs n up hs' added ys is_ys reads' e none given gives is_none f is_given =
+put_whole i s p xs is_xs known told new cs is_cs held is_held qs is_qs n up hs' added ys is_ys reads' e none given gives is_none f is_given =
     let fresh = sym (has_held p.num i.puts.items) ∙ (ap (has_num held_key p.num) (sym is_xs) ∙ (sym told ∙ new)) in
-    let added' : hs' ≡ add_row held_key (marked i.cuts.items p) i.puts.items = added ∙ ap (λ b. add_row held_key (record { row = p; live = not b }) i.puts.items) (told_dead ∙ ap (has_num cut_key p.num) is_cs) in
+    let added' : hs' ≡ add_row held_key (marked i.cuts.items p) i.puts.items = added ∙ ap (λ h. add_row held_key h i.puts.items) (is_held ∙ ap (λ cuts. marked cuts p) is_cs) in
     let up' = subst (λ z. All (λ q. stamp_lt p.stamp q.stamp ≡ false) (take n z)) is_qs up in
     let e' = e ∙ ap (λ z. take n i.reads.items ++ map (fresh_read (seen_by z i.base)) (drop n i.reads.items)) is_ys in
     let f' = is_given ∙ (f ∙ (ap (λ z. z ++ changed_of i.var (seen_by ys i.base) (drop n i.reads.items)) is_none ∙ ap (λ z. changed_of i.var (seen_by z i.base) (drop n i.reads.items)) is_ys)) in

@@ -1,12 +1,13 @@
 // Puts with the mark whether they are live, and one walk along them that tells what each read sees.
-ghost use Rattle.std.specs.Prelude.{◌≡◌, ◌+◌, ◌≤◌, ◌<◌, ◌++◌, ◌∷◌, [], ◌^◌, drop, length, map, vec_len, vec_capacity};
+ghost use Rattle.std.specs.Prelude.{◌≡◌, ◌+◌, ◌≤◌, ◌<◌, ◌++◌, ◌∷◌, [], ◌^◌, drop};
+ghost use Rattle.std.specs.Prelude.{length, map, vec_len, vec_capacity};
 ghost use Rattle.pm_base.specs.declared.stamp.Line.TheVariants as line;
 ghost use Rattle.pm_periods.specs.Records.{HaveTurns, changed_of, fresh_read, hit_eq, hit_in, last_give, with_hit};
 ghost use Rattle.pm_periods.specs.Rows.{IsInOrder, read_key};
-ghost use Rattle.pm_periods.specs.Walks.{held_key, held_value, seen_by, step, walk};
+ghost use Rattle.pm_periods.specs.Walks.{held_key, held_value, marked, seen_by, step, walk};
 
-use crate::rows::{Row, RowKey};
-use pm_base::{GiveRow, Line, PutRow, ReadRow, Value, Window};
+use crate::rows::{Row, RowKey, has};
+use pm_base::{CutRow, GiveRow, Line, PutRow, ReadRow, Stamp, Value, Window};
 
 // A put as it is kept: live where no received cut names it.
 #[derive(Clone, Copy, Debug, PartialEq, Eq)]
@@ -24,6 +25,14 @@ impl Row for Held {
 }
 
 impl Held {
+    // The put with its mark, beside these cuts.
+    pub fn beside(cuts: &[CutRow], row: PutRow) -> Held
+        ensures { result ≡ marked cuts.now row }
+    {
+        let live = !has(cuts, row.num);
+        Held { row, live }
+    }
+
     // The value after this put, where it is live.
     pub fn apply(&self, value: Value) -> Value
         ensures { result ≡ step self.now value }
@@ -64,6 +73,22 @@ pub fn value_at_line(puts: &[Held], base: Value, line: Line) -> Value
     ensures { result ≡ held_value line puts.now base }
 {
     advance(puts, Seen { at: 0, value: base }, line).value
+}
+
+// What a read at the stamp sees.
+pub fn seen_at(puts: &[Held], base: Value, s: Stamp) -> Value
+    requires { IsInOrder held_key puts.now }
+    ensures { result ≡ seen_by puts.now base s }
+{
+    value_at_line(puts, base, Line::At(s))
+}
+
+// What is seen at the line becomes the base.
+pub fn raise_base(base: &mut Value, puts: &[Held], line: Line)
+    requires { IsInOrder held_key puts.now }
+    ensures { base.new ≡ held_value line puts.now base.old }
+{
+    *base = value_at_line(puts, *base, line);
 }
 
 pub fn hit_in(value: Value, window: &Window) -> Option<Value>

@@ -2,7 +2,8 @@
 ghost use Rattle.std.specs.Prelude.{◌≡◌, ◌≢◌, ◌↔◌, false, IsTrue};
 ghost use Rattle.pm_base.specs.Stamps.{is_below};
 ghost use Rattle.pm_periods.specs.Periods.{periods_from, value_after_start, values_at};
-ghost use Rattle.pm_periods.specs.Records.{IsSettled, after_cut, after_put, after_watch, is_stale, record_hit, record_value, settled, trimmed};
+ghost use Rattle.pm_periods.specs.Records.{IsSettled, after_cut, after_put, after_watch, is_stale, record_hit};
+ghost use Rattle.pm_periods.specs.Records.{record_value, settled, trimmed};
 ghost use Rattle.pm_periods.specs.Sample.{SampleRecord};
 
 use crate::VarRecord;

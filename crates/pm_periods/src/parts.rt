@@ -5,7 +5,7 @@ ghost use Rattle.pm_periods.specs.Walks.{held_row, marked};
 
 use crate::VarRecord;
 use crate::held::{Held, set_hits};
-use crate::rows::{has, in_order};
+use crate::rows::in_order;
 use pm_base::{CutRow, List, Memory, Parts, PutRow};
 use std::alloc::Global;
 
@@ -59,8 +59,7 @@ fn marked(alloc: Global, puts: &[PutRow], cuts: &[CutRow]) -> Result<Vec<Held>, 
 {
     let mut held = Vec::with_capacity(alloc, puts.len())?;
     for row in puts {
-        let live = !has(cuts, row.num);
-        held.push(Held { row: *row, live })?;
+        held.push(Held::beside(cuts, *row))?;
     }
     Ok(held)
 }

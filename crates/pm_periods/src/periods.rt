@@ -14,7 +14,8 @@ impl VarRecord {
     /// at `from`, each ends at the next stamp at which a live put stands, and the last has no end.
     pub fn periods_from(&self, alloc: Global, from: Option<Stamp>) -> Result<List<Period>, Memory>
         ensures value { IfOk result (λ periods. periods ≡ periods_from self.now.parts from) }
-        ensures covers { IfOk result (λ periods. (s : Stamp) → values_at s periods ≡ value_after_start self.now.parts from s) }
+        ensures covers { IfOk result (λ periods. (s : Stamp) →
+            values_at s periods ≡ value_after_start self.now.parts from s) }
     {
         let mut periods = List::new(alloc);
         let mut reached = Reached {

@@ -1,12 +1,17 @@
-ghost use Rattle.std.specs.Prelude.{◌≡◌, ◌+◌, ◌≤◌, ◌==◌, if◌then◌else◌, None, Some, ◌∷◌, [], ◌++◌, false, filter, length, map, take, drop, vec_len, vec_capacity, IfOk, OnOk, OnErr};
+ghost use Rattle.std.specs.Prelude.{◌≡◌, ◌+◌, ◌≤◌, ◌==◌, if◌then◌else◌, None, Some};
+ghost use Rattle.std.specs.Prelude.{◌∷◌, [], ◌++◌, false, filter, length, map, take, drop, vec_len};
+ghost use Rattle.std.specs.Prelude.{vec_capacity, IfOk, OnOk, OnErr};
 ghost use Rattle.std.specs.List.{All};
 ghost use Rattle.std.specs.Option.{option_to_list};
 ghost use Rattle.pm_base.specs.Stamps.{is_below, stamp_lt};
-ghost use Rattle.pm_periods.specs.Records.{HaveTurns, after_cut, after_put, after_watch, changed_of, cut_row, empty_record, first_read, fresh_read, gives_of_cut, gives_of_put, gives_of_watch, kept_of, last_give, read_stays, record_value, trimmed, with_parts};
+ghost use Rattle.pm_periods.specs.Records.{HaveTurns, after_cut, after_put, after_watch, changed_of, cut_row};
+ghost use Rattle.pm_periods.specs.Records.{empty_record, first_read, fresh_read, gives_of_cut, gives_of_put};
+ghost use Rattle.pm_periods.specs.Records.{gives_of_watch, kept_of, last_give, read_stays, record_value, trimmed};
+ghost use Rattle.pm_periods.specs.Records.{with_parts};
 ghost use Rattle.pm_periods.specs.Rows.{IsInOrder, read_key};
 ghost use Rattle.pm_periods.specs.Walks.{CannotSee, cut_is_kept, held_key, held_stays, seen_by, withdrawn_at};
 
-use crate::held::{Held, give, hit_in, refresh, value_at_line};
+use crate::held::{Held, give, hit_in, raise_base, refresh, seen_at};
 use crate::rows::{RowKey, add, has, number_place, place};
 use pm_base::{CutRow, GiveRow, Line, List, Memory, Num, PutRow, ReadRow, Stamp, Value, Window};
 use std::alloc::Global;
@@ -58,10 +63,10 @@ impl VarRecord {
         if has(self.puts.as_slice(), row.num) {
             return Ok(List::new(alloc));
         }
-        let live = !has(self.cuts.as_slice(), row.num);
+        let held = Held::beside(self.cuts.as_slice(), row);
         let after = reads_up_to(self.reads.as_slice(), row.stamp);
         let mut gives = Vec::with_capacity(alloc, self.reads.len() - after)?;
-        add(&mut self.puts, Held { row, live })?;
+        add(&mut self.puts, held)?;
         let reads = &mut self.reads;
         refresh_from(
             self.var,
@@ -110,7 +115,8 @@ impl VarRecord {
         stamp: Stamp,
         window: Window,
     ) -> Result<Option<GiveRow>, Memory>
-        ensures ok { OnOk result (self.new ≡ with_parts self.old (after_watch (first_read num stamp window) self.old.parts)) }
+        ensures ok { OnOk result (self.new ≡
+            with_parts self.old (after_watch (first_read num stamp window) self.old.parts)) }
         ensures gives { IfOk result (λ give. option_to_list give ≡
             gives_of_watch self.old.var (first_read num stamp window) self.old.parts) }
         ensures err { OnErr result (self.new ≡ self.old) }
@@ -118,7 +124,7 @@ impl VarRecord {
         if has(self.reads.as_slice(), num) {
             return Ok(None);
         }
-        let value = value_at_line(self.puts.as_slice(), self.base, Line::At(stamp));
+        let value = seen_at(self.puts.as_slice(), self.base, stamp);
         let row = first_row(num, stamp, window, value);
         add(&mut self.reads, row)?;
         Ok(first_give(self.var, &row))
@@ -128,7 +134,7 @@ impl VarRecord {
     pub fn value_at(&self, s: Stamp) -> Value
         ensures { result ≡ record_value self.now.parts s }
     {
-        value_at_line(self.puts.as_slice(), self.base, Line::At(s))
+        seen_at(self.puts.as_slice(), self.base, s)
     }
 
     /// Forgets what is below the line, and keeps what a read at any stamp not below it sees. It takes no memory.
@@ -137,8 +143,7 @@ impl VarRecord {
         ensures keeps { (s : Stamp) → is_below s line ≡ false →
             record_value self.new.parts s ≡ record_value self.old.parts s }
     {
-        let base = value_at_line(self.puts.as_slice(), self.base, line);
-        self.base = base;
+        raise_base(&mut self.base, self.puts.as_slice(), line);
         keep_puts(&mut self.puts, line);
         keep_cuts(&mut self.cuts, self.puts.as_slice(), line);
         keep_reads(&mut self.reads, line);
@@ -231,7 +236,8 @@ fn refresh_from(
     requires room { vec_len gives.old + length reads.old.items ≤ vec_capacity gives.old + after }
     ensures reads { reads.new.items ≡ take after reads.old.items ++
         map (fresh_read (seen_by puts.now base)) (drop after reads.old.items) }
-    ensures gives { gives.new.items ≡ gives.old.items ++ changed_of var (seen_by puts.now base) (drop after reads.old.items) }
+    ensures gives { gives.new.items ≡
+        gives.old.items ++ changed_of var (seen_by puts.now base) (drop after reads.old.items) }
 {
     refresh(var, puts, base, &mut reads[after..], gives);
 }
@@ -247,7 +253,14 @@ fn keep_puts(puts: &mut Vec<Held>, line: Line)
 fn keep_cuts(cuts: &mut Vec<CutRow>, puts: &[Held], line: Line)
     ensures { cuts.new.items ≡ filter (cut_is_kept line puts.now) cuts.old.items }
 {
-    cuts.retain(|c| !line.is_past(c.stamp) || has(puts, c.num));
+    cuts.retain(|c| stays(c, puts, line));
+}
+
+// Whether the cut isn't below the line, or names one of the puts.
+fn stays(cut: &CutRow, puts: &[Held], line: Line) -> bool
+    ensures { result ≡ cut_is_kept line puts.now cut.now }
+{
+    !line.is_past(cut.stamp) || has(puts, cut.num)
 }
 
 // Drops the reads below the line.

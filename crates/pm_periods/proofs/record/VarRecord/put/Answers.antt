@@ -32,21 +32,21 @@ refresh_from-requires-clause-puts c =
 
 pub invariant_of-self-2 : goal.invariant_of-self-2
 invariant_of-self-2 c =
-    let whole = put_whole c.self.inside c.self.invariant c.args.row _ c.as_slice.ensures.value _ c.has.ensures c.if-has.false _ c.as_slice-2.ensures.value _ c.has-live.ensures
+    let whole = put_whole c.self.inside c.self.invariant c.args.row _ c.as_slice.ensures.value _ c.has.ensures c.if-has.false _ c.as_slice-2.ensures.value _ c.beside-held.ensures
     _ c.as_slice-3.ensures.value _ c.reads_up_to-after.ensures.before _ c.in_ok-add.ensures.ok _ c.as_slice-4.ensures.value _ c.refresh_from.ensures.reads
     _ _ _ c.in_ok-gives.ensures.items c.refresh_from.ensures.gives c.from_vec.ensures in
     record { settled = whole.2; marks = whole.3 }
 
 pub returns-clause-ok : goal.returns-clause-ok
 returns-clause-ok c =
-    let whole = put_whole c.self.inside c.self.invariant c.args.row _ c.as_slice.ensures.value _ c.has.ensures c.if-has.false _ c.as_slice-2.ensures.value _ c.has-live.ensures
+    let whole = put_whole c.self.inside c.self.invariant c.args.row _ c.as_slice.ensures.value _ c.has.ensures c.if-has.false _ c.as_slice-2.ensures.value _ c.beside-held.ensures
     _ c.as_slice-3.ensures.value _ c.reads_up_to-after.ensures.before _ c.in_ok-add.ensures.ok _ c.as_slice-4.ensures.value _ c.refresh_from.ensures.reads
     _ _ _ c.in_ok-gives.ensures.items c.refresh_from.ensures.gives c.from_vec.ensures in
     ap (λ z. record { var = c.self.inside.var; parts = z }) whole.0 ∙ ap (λ (z : Record). with_parts z (after_put c.args.row z.parts)) c.self.view_is
 
 pub returns-clause-gives : goal.returns-clause-gives
 returns-clause-gives c =
-    let whole = put_whole c.self.inside c.self.invariant c.args.row _ c.as_slice.ensures.value _ c.has.ensures c.if-has.false _ c.as_slice-2.ensures.value _ c.has-live.ensures
+    let whole = put_whole c.self.inside c.self.invariant c.args.row _ c.as_slice.ensures.value _ c.has.ensures c.if-has.false _ c.as_slice-2.ensures.value _ c.beside-held.ensures
     _ c.as_slice-3.ensures.value _ c.reads_up_to-after.ensures.before _ c.in_ok-add.ensures.ok _ c.as_slice-4.ensures.value _ c.refresh_from.ensures.reads
     _ _ _ c.in_ok-gives.ensures.items c.refresh_from.ensures.gives c.from_vec.ensures in
     whole.1 ∙ ap (λ (z : Record). gives_of_put z.var c.args.row z.parts) c.self.view_is

@@ -7,11 +7,11 @@ use Rattle.pm_periods.proofs.Receipts.{value_by}
 use Rattle.pm_periods.proofs.Walks.{in_order-held}
 use Rattle.pm_periods.proofs.record.VarRecord.value_at.Goals as goal
 
-pub value_at_line-requires : goal.value_at_line-requires
-value_at_line-requires c = subst (IsInOrder held_key) (sym c.as_slice.ensures.value) (in_order-held c.self.inside.puts.items c.self.invariant.settled.puts)
+pub seen_at-requires : goal.seen_at-requires
+seen_at-requires c = subst (IsInOrder held_key) (sym c.as_slice.ensures.value) (in_order-held c.self.inside.puts.items c.self.invariant.settled.puts)
 
 pub returns : goal.returns
 returns c =
     let i = c.self.inside in
-    c.value_at_line.ensures ∙ (ap (λ z. held_value (line.At c.args.s) z i.base) c.as_slice.ensures.value
+    c.seen_at.ensures ∙ (ap (λ z. held_value (line.At c.args.s) z i.base) c.as_slice.ensures.value
     ∙ (value_by i.base i.puts.items i.cuts.items i.reads.items c.self.invariant.marks (line.At c.args.s) ∙ ap (λ (z : Record). record_value z.parts c.args.s) c.self.view_is))

@@ -7,14 +7,14 @@ use Rattle.pm_periods.proofs.Receipts.{value_by, watch_gives, watch_parts}
 use Rattle.pm_periods.proofs.Walks.{in_order-held}
 use Rattle.pm_periods.proofs.record.VarRecord.watch.Goals as goal
 
-pub value_at_line-value-requires : goal.value_at_line-value-requires
-value_at_line-value-requires c = subst (IsInOrder held_key) (sym c.as_slice-2.ensures.value) (in_order-held c.self.inside.puts.items c.self.invariant.settled.puts)
+pub seen_at-value-requires : goal.seen_at-value-requires
+seen_at-value-requires c = subst (IsInOrder held_key) (sym c.as_slice-2.ensures.value) (in_order-held c.self.inside.puts.items c.self.invariant.settled.puts)
 
 pub invariant_of-self-2 : goal.invariant_of-self-2
 invariant_of-self-2 c =
     let i = c.self.inside in
     let new = ap (has_num read_key c.args.num) (sym c.as_slice.ensures.value) ∙ (sym c.has.ensures ∙ c.if-has.false) in
-    let seen = c.value_at_line-value.ensures ∙ (ap (λ z. held_value (line.At c.args.stamp) z i.base) c.as_slice-2.ensures.value ∙ value_by i.base i.puts.items i.cuts.items i.reads.items c.self.invariant.marks (line.At c.args.stamp)) in
+    let seen = c.seen_at-value.ensures ∙ (ap (λ z. held_value (line.At c.args.stamp) z i.base) c.as_slice-2.ensures.value ∙ value_by i.base i.puts.items i.cuts.items i.reads.items c.self.invariant.marks (line.At c.args.stamp)) in
     let done = watch_parts i c.self.invariant c.args.num c.args.stamp c.args.window new _ seen _ c.first_row-row.ensures _ c.in_ok-add.ensures.ok in
     record { settled = done.1; marks = c.self.invariant.marks }
 
@@ -22,7 +22,7 @@ pub returns-clause-ok : goal.returns-clause-ok
 returns-clause-ok c =
     let i = c.self.inside in
     let new = ap (has_num read_key c.args.num) (sym c.as_slice.ensures.value) ∙ (sym c.has.ensures ∙ c.if-has.false) in
-    let seen = c.value_at_line-value.ensures ∙ (ap (λ z. held_value (line.At c.args.stamp) z i.base) c.as_slice-2.ensures.value ∙ value_by i.base i.puts.items i.cuts.items i.reads.items c.self.invariant.marks (line.At c.args.stamp)) in
+    let seen = c.seen_at-value.ensures ∙ (ap (λ z. held_value (line.At c.args.stamp) z i.base) c.as_slice-2.ensures.value ∙ value_by i.base i.puts.items i.cuts.items i.reads.items c.self.invariant.marks (line.At c.args.stamp)) in
     let done = watch_parts i c.self.invariant c.args.num c.args.stamp c.args.window new _ seen _ c.first_row-row.ensures _ c.in_ok-add.ensures.ok in
     ap (λ z. record { var = i.var; parts = z }) done.0 ∙ ap (λ (z : Record). with_parts z (after_watch (first_read c.args.num c.args.stamp c.args.window) z.parts)) c.self.view_is
 
@@ -30,6 +30,6 @@ pub returns-clause-gives : goal.returns-clause-gives
 returns-clause-gives c =
     let i = c.self.inside in
     let new = ap (has_num read_key c.args.num) (sym c.as_slice.ensures.value) ∙ (sym c.has.ensures ∙ c.if-has.false) in
-    let seen = c.value_at_line-value.ensures ∙ (ap (λ z. held_value (line.At c.args.stamp) z i.base) c.as_slice-2.ensures.value ∙ value_by i.base i.puts.items i.cuts.items i.reads.items c.self.invariant.marks (line.At c.args.stamp)) in
+    let seen = c.seen_at-value.ensures ∙ (ap (λ z. held_value (line.At c.args.stamp) z i.base) c.as_slice-2.ensures.value ∙ value_by i.base i.puts.items i.cuts.items i.reads.items c.self.invariant.marks (line.At c.args.stamp)) in
     watch_gives i c.self.invariant c.args.num c.args.stamp c.args.window new _ seen _ c.first_row-row.ensures _ c.first_give.ensures
     ∙ ap (λ (z : Record). gives_of_watch z.var (first_read c.args.num c.args.stamp c.args.window) z.parts) c.self.view_is
