@@ -474,7 +474,7 @@ fn walks(plan: &Plan, rows: &[(u32, u32, u32, u32)]) -> bool
 }
 
 #[test]
-fn ways_lead_along_the_tree(rt: HostRuntime) -> Result<(), Fail> {
+fn ways_lead_along_a_line(rt: HostRuntime) -> Result<(), Fail> {
     let a = rt.alloc();
     let line = tree(a, chain(a, 64)?)?;
     assert!(rt;
@@ -489,6 +489,14 @@ fn ways_lead_along_the_tree(rt: HostRuntime) -> Result<(), Fail> {
             ]
         )
     );
+    let long = tree(a, chain(a, 65)?);
+    assert!(rt; matches!(long, Err(PlanFault::Limit { kind: Kind::Clp })));
+    Ok(())
+}
+
+#[test]
+fn ways_lead_through_the_middle_of_a_star(rt: HostRuntime) -> Result<(), Fail> {
+    let a = rt.alloc();
     let star = tree(
         a,
         clps(a, "", &[("b", "a"), ("a", ""), ("c", "a"), ("d", "a")])?,
@@ -505,6 +513,12 @@ fn ways_lead_along_the_tree(rt: HostRuntime) -> Result<(), Fail> {
             ]
         )
     );
+    Ok(())
+}
+
+#[test]
+fn ways_lead_along_a_bush(rt: HostRuntime) -> Result<(), Fail> {
+    let a = rt.alloc();
     let bush = tree(
         a,
         clps(
@@ -535,7 +549,5 @@ fn ways_lead_along_the_tree(rt: HostRuntime) -> Result<(), Fail> {
             ]
         )
     );
-    let long = tree(a, chain(a, 65)?);
-    assert!(rt; matches!(long, Err(PlanFault::Limit { kind: Kind::Clp })));
     Ok(())
 }

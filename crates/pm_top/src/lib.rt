@@ -2,6 +2,7 @@
 #![tactic(auto)]
 
 mod check;
+mod laws;
 mod mode;
 mod outcome;
 mod program;
@@ -11,5 +12,6 @@ mod run;
 #[cfg(test)]
 mod tests;
 
+pub use laws::{worked_endings, worked_outputs, worked_refusals};
 pub use outcome::{Ending, offer, status_of};
 pub use program::{Report, plain, top};
