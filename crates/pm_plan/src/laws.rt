@@ -138,8 +138,8 @@ pub fn rows_of_trees()
 /// Worked rows of the plan of parts: one plan with its own parts, and the first refusals where a later one holds too.
 #[tactic(auto, unfolding(crate::specs::Plans::plan_of, crate::specs::Plans::own_parts, crate::specs::Plans::numbered, crate::specs::Plans::refusal, crate::specs::Plans::later_refusal, crate::specs::Plans::first_off_tree, crate::specs::Plans::first_nowhere, crate::specs::Numbers::number_of, crate::specs::Numbers::first_wrong, crate::specs::Numbers::first_repeat, pm_base::specs::Names::is_name))]
 pub fn rows_of_plans()
-    ensures made { plan_of (parts (clp (codes "top") None ∷ clp (codes "low") (Some (codes "top")) ∷ []) (codes "low")) ≡
-        Ok two }
+    ensures made { plan_of (parts
+        (clp (codes "top") None ∷ clp (codes "low") (Some (codes "top")) ∷ []) (codes "low")) ≡ Ok two }
     ensures own { own_parts two ≡
         parts (clp (codes "top") None ∷ clp (codes "low") (Some (codes "top")) ∷ []) (codes "low") }
     ensures limit { plan_of (parts [] (codes "low")) ≡ Err (fault.Limit kind.Clp) }
