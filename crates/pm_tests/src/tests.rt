@@ -59,6 +59,14 @@ fn words_of(alloc: Global, words: &[&str]) -> Result<Vec<String>, AllocError> {
     Ok(all)
 }
 
+/// Whether no sink in memory lacked memory for itself, which is a fault of the sink alone.
+fn had_memory(out: &MemSink, err: &MemSink) -> Result<(), AllocError> {
+    if out.wants() > 0 || err.wants() > 0 {
+        return Err(AllocError);
+    }
+    Ok(())
+}
+
 /// Gives one space at each call, without end, and keeps how it was asked.
 #[derive(Drop)]
 struct Endless {
@@ -95,6 +103,7 @@ fn pieces_are_few_and_small(rt: HostRuntime) -> Result<(), Fail> {
     let mut out = MemSink::new(alloc, Vec::new(alloc));
     let mut err = MemSink::new(alloc, Vec::new(alloc));
     let report = plain(alloc, &words, &mut input, &mut out, &mut err);
+    had_memory(&out, &err)?;
     assert_eq!(rt; report.status, 2);
     assert_eq!(rt; input.takes, 4_194_305);
     assert_eq!(rt; input.widest, 65_536);
@@ -112,6 +121,7 @@ fn the_counter_through_top(rt: HostRuntime) -> Result<(), Fail> {
     let report = top(
         &rt, alloc, &words, &mut input, &mut out, &mut err, &FreeGate,
     );
+    had_memory(&out, &err)?;
     assert_eq!(rt; report.status, 0);
     assert!(rt; out.bytes() == TRACE.as_bytes());
     assert!(rt; err.bytes().is_empty());
@@ -200,6 +210,7 @@ fn devices_words_and_texts(rt: HostRuntime) -> Result<(), Fail> {
         let mut out = MemSink::new(alloc, Vec::from_slice(alloc, case.out)?);
         let mut err = MemSink::new(alloc, Vec::from_slice(alloc, case.err)?);
         let report = plain(alloc, &words, &mut input, &mut out, &mut err);
+        had_memory(&out, &err)?;
         assert_eq!(rt; report.status, case.status, "{}", case.name);
         assert!(rt; out.bytes() == case.written.as_bytes(), "{}", case.name);
         assert!(rt; err.bytes() == case.told.as_bytes(), "{}", case.name);
@@ -224,6 +235,7 @@ fn a_take_that_fails_after_each_byte(rt: HostRuntime) -> Result<(), Fail> {
         let mut out = MemSink::new(alloc, Vec::new(alloc));
         let mut err = MemSink::new(alloc, Vec::new(alloc));
         let report = plain(alloc, &words, &mut input, &mut out, &mut err);
+        had_memory(&out, &err)?;
         assert_eq!(rt; report.status, 4, "{taken}");
         assert!(rt; out.bytes().is_empty(), "{taken}");
         assert!(rt; err.bytes() == READ_FAULT.as_bytes(), "{taken}");
@@ -242,6 +254,7 @@ fn a_put_that_fails_after_each_byte(rt: HostRuntime) -> Result<(), Fail> {
             let mut out = MemSink::new(alloc, bytes_and_then(alloc, given, last)?);
             let mut err = MemSink::new(alloc, Vec::new(alloc));
             let report = plain(alloc, &words, &mut input, &mut out, &mut err);
+            had_memory(&out, &err)?;
             assert_eq!(rt; report.status, 5, "{given}");
             assert_eq!(rt; out.bytes().len(), given);
             assert!(rt; TRACE.as_bytes().starts_with(out.bytes()), "{given}");
@@ -260,6 +273,7 @@ fn a_scenario_past_the_limit(rt: HostRuntime) -> Result<(), Fail> {
     let mut out = MemSink::new(alloc, Vec::new(alloc));
     let mut err = MemSink::new(alloc, Vec::new(alloc));
     let report = plain(alloc, &words, &mut input, &mut out, &mut err);
+    had_memory(&out, &err)?;
     assert_eq!(rt; report.status, 2);
     assert!(rt; out.bytes().is_empty());
     assert!(rt; err.bytes() == b"pdesmas: the scenario is longer than 4194304 bytes\n".as_slice());
@@ -276,6 +290,7 @@ fn scenarios_and_what_they_print(rt: HostRuntime) -> Result<(), Fail> {
         let mut out = MemSink::new(alloc, Vec::new(alloc));
         let mut err = MemSink::new(alloc, Vec::new(alloc));
         let report = plain(alloc, &words, &mut input, &mut out, &mut err);
+        had_memory(&out, &err)?;
         assert_eq!(rt; report.status, *status, "{name}");
         assert!(rt; out.bytes() == written.as_bytes(), "{name}");
         assert!(rt; err.bytes() == told.as_bytes(), "{name}");
@@ -300,6 +315,7 @@ fn foragers(rt: HostRuntime) -> Result<(), Fail> {
     let mut out = MemSink::new(alloc, Vec::new(alloc));
     let mut err = MemSink::new(alloc, Vec::new(alloc));
     let report = plain(alloc, &words, &mut input, &mut out, &mut err);
+    had_memory(&out, &err)?;
     assert_eq!(rt; report.status, 0);
     for (number, line) in FORAGER_LINES {
         assert!(rt; is_line(out.bytes(), *number, line.as_bytes()), "{number}");
@@ -317,6 +333,7 @@ fn values_of_the_wrong_kind(rt: HostRuntime) -> Result<(), Fail> {
         let mut out = MemSink::new(alloc, Vec::new(alloc));
         let mut err = MemSink::new(alloc, Vec::new(alloc));
         let report = plain(alloc, &words, &mut input, &mut out, &mut err);
+        had_memory(&out, &err)?;
         let told = format!(in alloc; "pdesmas: scenario: {key} is of the wrong kind\n")?;
         assert_eq!(rt; report.status, 2, "{new}");
         assert!(rt; err.bytes() == told.as_bytes(), "{key}: {new}");
