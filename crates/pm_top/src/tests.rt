@@ -1,5 +1,6 @@
 use crate::program::serve;
 use pm_io::{MemSink, MemSource};
+use std::alloc::AllocError;
 use std::test::Fail;
 
 /// One agent that counts at the times 0, 1 and 2.
@@ -28,6 +29,9 @@ fn budgets_of_a_run(rt: HostRuntime) -> Result<(), Fail> {
         let mut out = MemSink::new(alloc, Vec::new(alloc));
         let mut err = MemSink::new(alloc, Vec::new(alloc));
         let report = serve(alloc, &words, budget, &mut input, &mut out, &mut err);
+        if out.wants() > 0 || err.wants() > 0 {
+            return Err(AllocError.into());
+        }
         assert_eq!(rt; report.status, status);
         assert!(rt; out.bytes() == output.as_bytes());
         assert!(rt; err.bytes() == told.as_bytes());
