@@ -24,25 +24,22 @@ const READ_FAULT: &str = "pdesmas: the input cannot be read\n";
 
 const WRITE_FAULT: &str = "pdesmas: the output cannot be written\n";
 
-/// A call, and what it has to leave.
-#[derive(Clone, Copy)]
-struct Case<'a> {
-    name: &'a str,
-    words: &'a [&'a str],
-    text: &'a str,
-    input: &'a [Cue],
-    out: &'a [Cue],
-    err: &'a [Cue],
+/// A call of the counter over devices of these cues, and what it has to leave.
+struct Case {
+    name: &'static str,
+    words: &'static [&'static str],
+    input: &'static [Cue],
+    out: &'static [Cue],
+    err: &'static [Cue],
     status: u8,
-    written: &'a str,
-    told: &'a str,
+    written: &'static str,
+    told: &'static str,
 }
 
 /// The counter over devices that never fail.
-const GOOD: Case<'static> = Case {
+const GOOD: Case = Case {
     name: "counter",
     words: &["seq"],
-    text: COUNTER,
     input: &[],
     out: &[],
     err: &[],
@@ -50,6 +47,85 @@ const GOOD: Case<'static> = Case {
     written: TRACE,
     told: "",
 };
+
+/// Devices that give or take a part, or fail.
+const DEVICES: [Case; 6] = [
+    Case {
+        name: "one byte at a time",
+        input: &BYTES,
+        out: &BYTES,
+        ..GOOD
+    },
+    Case {
+        name: "the third put fails",
+        out: &[Cue::All, Cue::All, Cue::Fail],
+        status: 5,
+        written: TWO_LINES,
+        told: WRITE_FAULT,
+        ..GOOD
+    },
+    Case {
+        name: "the first put takes nothing",
+        out: &[Cue::Take(0)],
+        status: 5,
+        written: "",
+        told: WRITE_FAULT,
+        ..GOOD
+    },
+    Case {
+        name: "the first take fails",
+        input: &[Cue::Fail],
+        status: 4,
+        written: "",
+        told: READ_FAULT,
+        ..GOOD
+    },
+    Case {
+        name: "the second take fails",
+        input: &[Cue::Take(9), Cue::Fail],
+        status: 4,
+        written: "",
+        told: READ_FAULT,
+        ..GOOD
+    },
+    Case {
+        name: "the error line fails",
+        input: &[Cue::Fail],
+        err: &[Cue::Take(9), Cue::Fail],
+        status: 4,
+        written: "",
+        told: "pdesmas: ",
+        ..GOOD
+    },
+];
+
+/// Words that name no mode.
+const OTHER_WORDS: [Case; 3] = [
+    Case {
+        name: "no words",
+        words: &[],
+        status: 1,
+        written: "",
+        told: WORDS,
+        ..GOOD
+    },
+    Case {
+        name: "another word",
+        words: &["run"],
+        status: 1,
+        written: "",
+        told: WORDS,
+        ..GOOD
+    },
+    Case {
+        name: "two words",
+        words: &["seq", "seq"],
+        status: 1,
+        written: "",
+        told: WORDS,
+        ..GOOD
+    },
+];
 
 fn words_of(alloc: Global, words: &[&str]) -> Result<Vec<String>, AllocError> {
     let mut all = Vec::new(alloc);
@@ -59,12 +135,90 @@ fn words_of(alloc: Global, words: &[&str]) -> Result<Vec<String>, AllocError> {
     Ok(all)
 }
 
-/// Whether no sink in memory lacked memory for itself, which is a fault of the sink alone.
-fn had_memory(out: &MemSink, err: &MemSink) -> Result<(), AllocError> {
+/// Devices in memory: the scenario's text, and the cues of each.
+#[derive(Drop)]
+struct Devices {
+    input: MemSource,
+    out: MemSink,
+    err: MemSink,
+}
+
+fn devices_of(
+    alloc: Global,
+    text: &str,
+    input: Vec<Cue>,
+    out: Vec<Cue>,
+    err: Vec<Cue>,
+) -> Result<Devices, AllocError> {
+    Ok(Devices {
+        input: MemSource::new(Vec::from_slice(alloc, text.as_bytes())?, input),
+        out: MemSink::new(alloc, out),
+        err: MemSink::new(alloc, err),
+    })
+}
+
+/// What a call left: its status, and what was written to the output and to the error output.
+#[derive(Drop)]
+struct Left {
+    status: u8,
+    out: MemSink,
+    err: MemSink,
+}
+
+impl Left {
+    fn is(&self, status: u8, written: &str, told: &str) -> bool {
+        let texts = self.out.bytes() == written.as_bytes() && self.err.bytes() == told.as_bytes();
+        self.status == status && texts
+    }
+}
+
+/// Calls the program with these words. That a sink in memory found no memory for itself is a fault of the sink alone.
+fn run(alloc: Global, words: &[&str], devices: Devices) -> Result<Left, AllocError> {
+    let words = words_of(alloc, words)?;
+    let Devices {
+        mut input,
+        mut out,
+        mut err,
+    } = devices;
+    let report = plain(alloc, &words, &mut input, &mut out, &mut err);
     if out.wants() > 0 || err.wants() > 0 {
         return Err(AllocError);
     }
-    Ok(())
+    Ok(Left {
+        status: report.status,
+        out,
+        err,
+    })
+}
+
+/// The same with devices that never fail.
+fn run_text(alloc: Global, word: &str, text: &str) -> Result<Left, AllocError> {
+    let devices = devices_of(
+        alloc,
+        text,
+        Vec::new(alloc),
+        Vec::new(alloc),
+        Vec::new(alloc),
+    )?;
+    run(alloc, &[word], devices)
+}
+
+/// The name of the first case that left something else.
+fn other_than_told(alloc: Global, cases: &[Case]) -> Result<Option<&'static str>, AllocError> {
+    for case in cases {
+        let input = Vec::from_slice(alloc, case.input)?;
+        let out = Vec::from_slice(alloc, case.out)?;
+        let err = Vec::from_slice(alloc, case.err)?;
+        let left = run(
+            alloc,
+            case.words,
+            devices_of(alloc, COUNTER, input, out, err)?,
+        )?;
+        if !left.is(case.status, case.written, case.told) {
+            return Ok(Some(case.name));
+        }
+    }
+    Ok(None)
 }
 
 /// Gives one space at each call, without end, and keeps how it was asked.
@@ -103,7 +257,6 @@ fn pieces_are_few_and_small(rt: HostRuntime) -> Result<(), Fail> {
     let mut out = MemSink::new(alloc, Vec::new(alloc));
     let mut err = MemSink::new(alloc, Vec::new(alloc));
     let report = plain(alloc, &words, &mut input, &mut out, &mut err);
-    had_memory(&out, &err)?;
     assert_eq!(rt; report.status, 2);
     assert_eq!(rt; input.takes, 4_194_305);
     assert_eq!(rt; input.widest, 65_536);
@@ -121,100 +274,24 @@ fn the_counter_through_top(rt: HostRuntime) -> Result<(), Fail> {
     let report = top(
         &rt, alloc, &words, &mut input, &mut out, &mut err, &FreeGate,
     );
-    had_memory(&out, &err)?;
-    assert_eq!(rt; report.status, 0);
-    assert!(rt; out.bytes() == TRACE.as_bytes());
-    assert!(rt; err.bytes().is_empty());
+    let left = Left {
+        status: report.status,
+        out,
+        err,
+    };
+    assert!(rt; left.is(0, TRACE, ""));
     Ok(())
 }
 
 #[test]
-fn devices_words_and_texts(rt: HostRuntime) -> Result<(), Fail> {
-    let alloc = rt.alloc();
-    for case in [
-        Case {
-            name: "one byte at a time",
-            input: &BYTES,
-            out: &BYTES,
-            ..GOOD
-        },
-        Case {
-            name: "the third put fails",
-            out: &[Cue::All, Cue::All, Cue::Fail],
-            status: 5,
-            written: TWO_LINES,
-            told: WRITE_FAULT,
-            ..GOOD
-        },
-        Case {
-            name: "the first put takes nothing",
-            out: &[Cue::Take(0)],
-            status: 5,
-            written: "",
-            told: WRITE_FAULT,
-            ..GOOD
-        },
-        Case {
-            name: "the first take fails",
-            input: &[Cue::Fail],
-            status: 4,
-            written: "",
-            told: READ_FAULT,
-            ..GOOD
-        },
-        Case {
-            name: "the second take fails",
-            input: &[Cue::Take(9), Cue::Fail],
-            status: 4,
-            written: "",
-            told: READ_FAULT,
-            ..GOOD
-        },
-        Case {
-            name: "the error line fails",
-            input: &[Cue::Fail],
-            err: &[Cue::Take(9), Cue::Fail],
-            status: 4,
-            written: "",
-            told: "pdesmas: ",
-            ..GOOD
-        },
-        Case {
-            name: "no words",
-            words: &[],
-            status: 1,
-            written: "",
-            told: WORDS,
-            ..GOOD
-        },
-        Case {
-            name: "another word",
-            words: &["run"],
-            status: 1,
-            written: "",
-            told: WORDS,
-            ..GOOD
-        },
-        Case {
-            name: "two words",
-            words: &["seq", "seq"],
-            status: 1,
-            written: "",
-            told: WORDS,
-            ..GOOD
-        },
-    ] {
-        let words = words_of(alloc, case.words)?;
-        let bytes = Vec::from_slice(alloc, case.text.as_bytes())?;
-        let mut input = MemSource::new(bytes, Vec::from_slice(alloc, case.input)?);
-        let mut out = MemSink::new(alloc, Vec::from_slice(alloc, case.out)?);
-        let mut err = MemSink::new(alloc, Vec::from_slice(alloc, case.err)?);
-        let report = plain(alloc, &words, &mut input, &mut out, &mut err);
-        had_memory(&out, &err)?;
-        assert_eq!(rt; report.status, case.status, "{}", case.name);
-        assert!(rt; out.bytes() == case.written.as_bytes(), "{}", case.name);
-        assert!(rt; err.bytes() == case.told.as_bytes(), "{}", case.name);
-    }
+fn devices_that_give_a_part_or_fail(rt: HostRuntime) -> Result<(), Fail> {
+    assert_eq!(rt; other_than_told(rt.alloc(), &DEVICES)?, None);
+    Ok(())
+}
+
+#[test]
+fn words_that_name_no_mode(rt: HostRuntime) -> Result<(), Fail> {
+    assert_eq!(rt; other_than_told(rt.alloc(), &OTHER_WORDS)?, None);
     Ok(())
 }
 
@@ -228,17 +305,11 @@ fn bytes_and_then(alloc: Global, calls: usize, last: Cue) -> Result<Vec<Cue>, Al
 #[test]
 fn a_take_that_fails_after_each_byte(rt: HostRuntime) -> Result<(), Fail> {
     let alloc = rt.alloc();
-    let words = words_of(alloc, &["seq"])?;
     for taken in 0..COUNTER.len() + 1 {
-        let bytes = Vec::from_slice(alloc, COUNTER.as_bytes())?;
-        let mut input = MemSource::new(bytes, bytes_and_then(alloc, taken, Cue::Fail)?);
-        let mut out = MemSink::new(alloc, Vec::new(alloc));
-        let mut err = MemSink::new(alloc, Vec::new(alloc));
-        let report = plain(alloc, &words, &mut input, &mut out, &mut err);
-        had_memory(&out, &err)?;
-        assert_eq!(rt; report.status, 4, "{taken}");
-        assert!(rt; out.bytes().is_empty(), "{taken}");
-        assert!(rt; err.bytes() == READ_FAULT.as_bytes(), "{taken}");
+        let input = bytes_and_then(alloc, taken, Cue::Fail)?;
+        let devices = devices_of(alloc, COUNTER, input, Vec::new(alloc), Vec::new(alloc))?;
+        let left = run(alloc, &["seq"], devices)?;
+        assert!(rt; left.is(4, "", READ_FAULT), "{taken}");
     }
     Ok(())
 }
@@ -246,19 +317,12 @@ fn a_take_that_fails_after_each_byte(rt: HostRuntime) -> Result<(), Fail> {
 #[test]
 fn a_put_that_fails_after_each_byte(rt: HostRuntime) -> Result<(), Fail> {
     let alloc = rt.alloc();
-    let words = words_of(alloc, &["seq"])?;
     for last in [Cue::Fail, Cue::Take(0)] {
         for given in 0..TRACE.len() {
-            let bytes = Vec::from_slice(alloc, COUNTER.as_bytes())?;
-            let mut input = MemSource::new(bytes, Vec::new(alloc));
-            let mut out = MemSink::new(alloc, bytes_and_then(alloc, given, last)?);
-            let mut err = MemSink::new(alloc, Vec::new(alloc));
-            let report = plain(alloc, &words, &mut input, &mut out, &mut err);
-            had_memory(&out, &err)?;
-            assert_eq!(rt; report.status, 5, "{given}");
-            assert_eq!(rt; out.bytes().len(), given);
-            assert!(rt; TRACE.as_bytes().starts_with(out.bytes()), "{given}");
-            assert!(rt; err.bytes() == WRITE_FAULT.as_bytes(), "{given}");
+            let out = bytes_and_then(alloc, given, last)?;
+            let devices = devices_of(alloc, COUNTER, Vec::new(alloc), out, Vec::new(alloc))?;
+            let left = run(alloc, &["seq"], devices)?;
+            assert!(rt; left.is(5, &TRACE[..given], WRITE_FAULT), "{given}");
         }
     }
     Ok(())
@@ -273,27 +337,26 @@ fn a_scenario_past_the_limit(rt: HostRuntime) -> Result<(), Fail> {
     let mut out = MemSink::new(alloc, Vec::new(alloc));
     let mut err = MemSink::new(alloc, Vec::new(alloc));
     let report = plain(alloc, &words, &mut input, &mut out, &mut err);
-    had_memory(&out, &err)?;
-    assert_eq!(rt; report.status, 2);
-    assert!(rt; out.bytes().is_empty());
-    assert!(rt; err.bytes() == b"pdesmas: the scenario is longer than 4194304 bytes\n".as_slice());
+    let left = Left {
+        status: report.status,
+        out,
+        err,
+    };
+    assert!(rt;
+        left.is(
+            2,
+            "",
+            "pdesmas: the scenario is longer than 4194304 bytes\n"
+        )
+    );
     Ok(())
 }
 
 #[test]
 fn scenarios_and_what_they_print(rt: HostRuntime) -> Result<(), Fail> {
-    let alloc = rt.alloc();
     for (name, mode, text, status, written, told) in ROWS {
-        let words = words_of(alloc, &[mode])?;
-        let bytes = Vec::from_slice(alloc, text.as_bytes())?;
-        let mut input = MemSource::new(bytes, Vec::new(alloc));
-        let mut out = MemSink::new(alloc, Vec::new(alloc));
-        let mut err = MemSink::new(alloc, Vec::new(alloc));
-        let report = plain(alloc, &words, &mut input, &mut out, &mut err);
-        had_memory(&out, &err)?;
-        assert_eq!(rt; report.status, *status, "{name}");
-        assert!(rt; out.bytes() == written.as_bytes(), "{name}");
-        assert!(rt; err.bytes() == told.as_bytes(), "{name}");
+        let left = run_text(rt.alloc(), mode, text)?;
+        assert!(rt; left.is(*status, written, told), "{name}");
     }
     Ok(())
 }
@@ -308,17 +371,13 @@ fn is_line(bytes: &[u8], number: usize, line: &[u8]) -> bool {
 
 #[test]
 fn foragers(rt: HostRuntime) -> Result<(), Fail> {
-    let alloc = rt.alloc();
-    let words = words_of(alloc, &["seq"])?;
-    let bytes = Vec::from_slice(alloc, FORAGERS.as_bytes())?;
-    let mut input = MemSource::new(bytes, Vec::new(alloc));
-    let mut out = MemSink::new(alloc, Vec::new(alloc));
-    let mut err = MemSink::new(alloc, Vec::new(alloc));
-    let report = plain(alloc, &words, &mut input, &mut out, &mut err);
-    had_memory(&out, &err)?;
-    assert_eq!(rt; report.status, 0);
+    let left = run_text(rt.alloc(), "seq", FORAGERS)?;
+    assert_eq!(rt; left.status, 0);
     for (number, line) in FORAGER_LINES {
-        assert!(rt; is_line(out.bytes(), *number, line.as_bytes()), "{number}");
+        assert!(rt;
+            is_line(left.out.bytes(), *number, line.as_bytes()),
+            "{number}"
+        );
     }
     Ok(())
 }
@@ -327,16 +386,10 @@ fn foragers(rt: HostRuntime) -> Result<(), Fail> {
 fn values_of_the_wrong_kind(rt: HostRuntime) -> Result<(), Fail> {
     let alloc = rt.alloc();
     for (old, new, key) in WRONG {
-        let words = words_of(alloc, &["check"])?;
         let text = WHOLE.replacen(alloc, old, new, 1)?;
-        let mut input = MemSource::new(Vec::from_slice(alloc, text.as_bytes())?, Vec::new(alloc));
-        let mut out = MemSink::new(alloc, Vec::new(alloc));
-        let mut err = MemSink::new(alloc, Vec::new(alloc));
-        let report = plain(alloc, &words, &mut input, &mut out, &mut err);
-        had_memory(&out, &err)?;
+        let left = run_text(alloc, "check", text.as_str())?;
         let told = format!(in alloc; "pdesmas: scenario: {key} is of the wrong kind\n")?;
-        assert_eq!(rt; report.status, 2, "{new}");
-        assert!(rt; err.bytes() == told.as_bytes(), "{key}: {new}");
+        assert!(rt; left.is(2, "", told.as_str()), "{key}: {new}");
     }
     Ok(())
 }
