@@ -322,7 +322,10 @@ fn a_put_that_fails_after_each_byte(rt: HostRuntime) -> Result<(), Fail> {
             let out = bytes_and_then(alloc, given, last)?;
             let devices = devices_of(alloc, COUNTER, Vec::new(alloc), out, Vec::new(alloc))?;
             let left = run(alloc, &["seq"], devices)?;
-            assert!(rt; left.is(5, &TRACE[..given], WRITE_FAULT), "{given}");
+            assert_eq!(rt; left.status, 5, "{given}");
+            assert_eq!(rt; left.out.bytes().len(), given);
+            assert!(rt; TRACE.as_bytes().starts_with(left.out.bytes()), "{given}");
+            assert!(rt; left.err.bytes() == WRITE_FAULT.as_bytes(), "{given}");
         }
     }
     Ok(())
