@@ -367,7 +367,11 @@ fn refusal(alloc: Global, given: &str, sketch: &Sketch) -> Result<Option<PlanFau
         classes: classes(alloc, given, sketch.2)?,
         agents: agents(alloc, given, sketch.3)?,
     };
-    Ok(Plan::make(alloc, parts).err())
+    match Plan::make(alloc, parts) {
+        Ok(_) => Ok(None),
+        Err(PlanFault::Memory) => Err(Memory),
+        Err(fault) => Ok(Some(fault)),
+    }
 }
 
 /// Why there is no plan of that many variables and agents, all of a kind with one name.

@@ -4,6 +4,7 @@ ghost use Rattle.pm_base.specs.Stamps.{is_below};
 use crate::Bounds;
 use pm_base::{Interval, Line, Memory, Stamp, Value, Window};
 use std::alloc::Global;
+use std::test::Fail;
 
 const ALL: Interval = Interval {
     from: None,
@@ -53,29 +54,30 @@ fn grow(bounds: &mut Bounds, alloc: Global, when: Interval, x: i64) -> Result<bo
 }
 
 #[test]
-fn bounds_join_what_grew(rt: HostRuntime) {
+fn bounds_join_what_grew(rt: HostRuntime) -> Result<(), Fail> {
     let alloc = rt.alloc();
     let mut bounds = Bounds::new(alloc);
     assert!(rt; bounds.bound_at(at(0, 0)) == None);
-    assert!(rt; grow(&mut bounds, alloc, ALL, 0) == Ok(true));
-    assert!(rt; grow(&mut bounds, alloc, after(3), 5) == Ok(true));
+    assert!(rt; grow(&mut bounds, alloc, ALL, 0)?);
+    assert!(rt; grow(&mut bounds, alloc, after(3), 5)?);
     assert!(rt; bounds.bound_at(at(3, 0)) == across(0, 0));
     assert!(rt; bounds.bound_at(at(3, 1)) == across(0, 5));
-    assert!(rt; grow(&mut bounds, alloc, between(4, 6), 2) == Ok(false));
-    assert!(rt; grow(&mut bounds, alloc, between(2, 6), 2) == Ok(true));
+    assert!(rt; !grow(&mut bounds, alloc, between(4, 6), 2)?);
+    assert!(rt; grow(&mut bounds, alloc, between(2, 6), 2)?);
     assert!(rt; bounds.bound_at(at(2, 0)) == across(0, 0));
     assert!(rt; bounds.bound_at(at(2, 1)) == across(0, 2));
+    Ok(())
 }
 
 #[test]
-fn intervals_end_where_others_begin(rt: HostRuntime) {
+fn intervals_end_where_others_begin(rt: HostRuntime) -> Result<(), Fail> {
     let alloc = rt.alloc();
     let mut bounds = Bounds::new(alloc);
-    assert!(rt; grow(&mut bounds, alloc, between(1, 3), 1) == Ok(true));
-    assert!(rt; grow(&mut bounds, alloc, between(3, 5), 2) == Ok(true));
-    assert!(rt; grow(&mut bounds, alloc, between(5, 5), 9) == Ok(false));
-    assert!(rt; grow(&mut bounds, alloc, between(5, 2), 9) == Ok(false));
-    assert!(rt; grow(&mut bounds, alloc, between(1, 3), 1) == Ok(false));
+    assert!(rt; grow(&mut bounds, alloc, between(1, 3), 1)?);
+    assert!(rt; grow(&mut bounds, alloc, between(3, 5), 2)?);
+    assert!(rt; !grow(&mut bounds, alloc, between(5, 5), 9)?);
+    assert!(rt; !grow(&mut bounds, alloc, between(5, 2), 9)?);
+    assert!(rt; !grow(&mut bounds, alloc, between(1, 3), 1)?);
     for (s, bound) in [
         (at(1, 0), None),
         (at(1, 1), across(1, 1)),
@@ -86,20 +88,22 @@ fn intervals_end_where_others_begin(rt: HostRuntime) {
     ] {
         assert!(rt; bounds.bound_at(s) == bound);
     }
+    Ok(())
 }
 
 #[test]
-fn trimming_keeps_what_is_asked(rt: HostRuntime) {
+fn trimming_keeps_what_is_asked(rt: HostRuntime) -> Result<(), Fail> {
     let alloc = rt.alloc();
     let mut bounds = Bounds::new(alloc);
-    assert!(rt; grow(&mut bounds, alloc, between(1, 3), 1) == Ok(true));
-    assert!(rt; grow(&mut bounds, alloc, after(2), 2) == Ok(true));
+    assert!(rt; grow(&mut bounds, alloc, between(1, 3), 1)?);
+    assert!(rt; grow(&mut bounds, alloc, after(2), 2)?);
     bounds.trim(Line::At(at(3, 0)));
     assert!(rt; bounds.bound_at(at(3, 0)) == across(1, 2));
     assert!(rt; bounds.bound_at(at(3, 1)) == across(2, 2));
-    assert!(rt; grow(&mut bounds, alloc, between(0, 2), 9) == Ok(false));
-    assert!(rt; grow(&mut bounds, alloc, between(0, 3), 9) == Ok(true));
+    assert!(rt; !grow(&mut bounds, alloc, between(0, 2), 9)?);
+    assert!(rt; grow(&mut bounds, alloc, between(0, 3), 9)?);
     assert!(rt; bounds.bound_at(at(3, 0)) == across(1, 9));
     bounds.trim(Line::End);
-    assert!(rt; grow(&mut bounds, alloc, ALL, 7) == Ok(false));
+    assert!(rt; !grow(&mut bounds, alloc, ALL, 7)?);
+    Ok(())
 }

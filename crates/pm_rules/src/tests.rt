@@ -1,5 +1,5 @@
 use crate::{Names, RuleFault, parse};
-use pm_base::{ClassRow, Expr, Field, List, Name, Op, Place, Program, Sense, Stmt};
+use pm_base::{ClassRow, Expr, Field, List, Memory, Name, Op, Place, Program, Sense, Stmt};
 use std::alloc::{AllocError, Global};
 use std::test::Fail;
 
@@ -20,10 +20,12 @@ fn read(alloc: Global, text: &str, version: u32) -> Result<Program, RuleFault> {
     parse(alloc, text, &names, version)
 }
 
-fn fault_of(alloc: Global, text: &str, version: u32) -> Option<RuleFault> {
+/// Why a text is no rule, none where it is one.
+fn fault_of(alloc: Global, text: &str, version: u32) -> Result<Option<RuleFault>, Memory> {
     match read(alloc, text, version) {
-        Ok(_) => None,
-        Err(fault) => Some(fault),
+        Ok(_) => Ok(None),
+        Err(RuleFault::Memory) => Err(Memory),
+        Err(fault) => Ok(Some(fault)),
     }
 }
 
@@ -52,13 +54,16 @@ fn unknown(line: u64) -> Option<RuleFault> {
 }
 
 /// The first of these texts of version 1 that has another fault than it should.
-fn mistold<'a>(alloc: Global, rows: &[(&'a str, Option<RuleFault>)]) -> Option<&'a str> {
+fn mistold<'a>(
+    alloc: Global,
+    rows: &[(&'a str, Option<RuleFault>)],
+) -> Result<Option<&'a str>, Memory> {
     for (text, want) in rows {
-        if fault_of(alloc, text, 1) != *want {
-            return Some(text);
+        if fault_of(alloc, text, 1)? != *want {
+            return Ok(Some(text));
         }
     }
-    None
+    Ok(None)
 }
 
 #[test]
@@ -92,7 +97,7 @@ fn lines_and_tokens_are_cut(rt: HostRuntime) -> Result<(), Fail> {
         ("wait 1 1", word(1)),
         ("wait 1\nwait 1 1", word(2)),
     ];
-    assert_eq!(rt; mistold(rt.alloc(), &rows), None);
+    assert_eq!(rt; mistold(rt.alloc(), &rows)?, None);
     Ok(())
 }
 
@@ -113,7 +118,7 @@ fn words_and_expressions_are_read(rt: HostRuntime) -> Result<(), Fail> {
         ("wait (1 = 2)", word(1)),
         ("wait ((1 min 2) <= (now % me))", None),
     ];
-    assert_eq!(rt; mistold(rt.alloc(), &rows), None);
+    assert_eq!(rt; mistold(rt.alloc(), &rows)?, None);
     Ok(())
 }
 
@@ -136,7 +141,7 @@ fn places_and_windows_are_read(rt: HostRuntime) -> Result<(), Fail> {
         ("scan s = c0 0 1 0 1", unknown(1)),
         ("scan s = c 0 1 0", word(1)),
     ];
-    assert_eq!(rt; mistold(rt.alloc(), &rows), None);
+    assert_eq!(rt; mistold(rt.alloc(), &rows)?, None);
     Ok(())
 }
 
@@ -153,7 +158,7 @@ fn names_stand_for_what_was_declared(rt: HostRuntime) -> Result<(), Fail> {
         ("add c0 = 1, 2", word(1)),
         ("\nadd c0 = 1, 2", word(2)),
     ];
-    assert_eq!(rt; mistold(rt.alloc(), &rows), None);
+    assert_eq!(rt; mistold(rt.alloc(), &rows)?, None);
     Ok(())
 }
 
@@ -185,16 +190,16 @@ fn the_first_fault_is_told(rt: HostRuntime) -> Result<(), Fail> {
         ("wait (1\nwait m", word(1)),
         ("if 1\nwait m", unknown(2)),
     ];
-    assert_eq!(rt; mistold(rt.alloc(), &rows), None);
+    assert_eq!(rt; mistold(rt.alloc(), &rows)?, None);
     Ok(())
 }
 
 #[test]
 fn changes_by_addition_are_of_version_2(rt: HostRuntime) -> Result<(), Fail> {
     let alloc = rt.alloc();
-    assert!(rt; fault_of(alloc, "add c[me] = 1, 2\nreg add 0", 2) == order(2));
-    assert!(rt; fault_of(alloc, "reg add 0\nadd c0 = add, 2\n", 2) == None);
-    assert!(rt; fault_of(alloc, "\nadd c2 = 1, 2", 2) == unknown(2));
+    assert!(rt; fault_of(alloc, "add c[me] = 1, 2\nreg add 0", 2)? == order(2));
+    assert!(rt; fault_of(alloc, "reg add 0\nadd c0 = add, 2\n", 2)? == None);
+    assert!(rt; fault_of(alloc, "\nadd c2 = 1, 2", 2)? == unknown(2));
     Ok(())
 }
 
@@ -248,7 +253,7 @@ fn what_is_too_long_is_refused(rt: HostRuntime) -> Result<(), Fail> {
     ];
     for (i, (parts, want)) in cases.iter().enumerate() {
         let text = text_of(alloc, parts)?;
-        assert!(rt; fault_of(alloc, text.as_str(), 1) == *want, "{i}");
+        assert!(rt; fault_of(alloc, text.as_str(), 1)? == *want, "{i}");
     }
     Ok(())
 }
@@ -287,7 +292,7 @@ fn there_are_at_most_16_registers_and_16_senses(rt: HostRuntime) -> Result<(), F
     for (before, after, count, last, want) in cases {
         let text = numbered(alloc, before, after, count, last)?;
         assert!(rt;
-            fault_of(alloc, text.as_str(), 1) == want,
+            fault_of(alloc, text.as_str(), 1)? == want,
             "{before} {count} {last}"
         );
     }

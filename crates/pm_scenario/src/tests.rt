@@ -210,7 +210,7 @@ fn told(alloc: Global, bytes: &[u8]) -> Result<String, AllocError> {
         ScenarioFault::Strange { key } => format!(in alloc; "strange {}", key.as_str()),
         ScenarioFault::Rule { agent, fault } => format!(in alloc; "rule {agent}: {fault:?}"),
         ScenarioFault::Plan { fault } => format!(in alloc; "plan: {fault:?}"),
-        ScenarioFault::Memory => String::from_str(alloc, "memory"),
+        ScenarioFault::Memory => Err(AllocError),
     }
 }
 
