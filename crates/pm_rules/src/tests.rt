@@ -345,11 +345,7 @@ fn is_worked_test(test: &Expr) -> bool {
 fn trees_are_as_written(rt: HostRuntime) -> Result<(), Fail> {
     let alloc = rt.alloc();
     let text = "reg n 0\nread a=c0\nif(a.x<1)\nset c0=(n - 1),-2\nend";
-    let program = read(alloc, text, 1);
-    let Ok(program) = program else {
-        assert!(rt; false, "the worked row is a rule");
-        return Ok(());
-    };
+    let program = read(alloc, text, 1)?;
     match program.regs.as_slice() {
         [row] => assert!(rt; row.name.as_str() == "n" && row.start == 0),
         _ => assert!(rt; false, "one register"),
@@ -387,11 +383,7 @@ fn trees_are_as_written(rt: HostRuntime) -> Result<(), Fail> {
 
 #[test]
 fn the_first_number_of_a_name_counts(rt: HostRuntime) -> Result<(), Fail> {
-    let program = read(rt.alloc(), "set twice = 1, 2", 1);
-    let Ok(program) = program else {
-        assert!(rt; false, "a rule");
-        return Ok(());
-    };
+    let program = read(rt.alloc(), "set twice = 1, 2", 1)?;
     match program.body.as_slice() {
         [
             Stmt::Set {

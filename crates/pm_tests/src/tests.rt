@@ -18,6 +18,9 @@ const TRACE: &str =
 /// One byte at each call.
 const BYTES: [Cue; 400] = [Cue::Take(1); 400];
 
+/// The status for want of memory, which no test awaits.
+const MEMORY: u8 = 6;
+
 const WORDS: &str = "pdesmas: the words are not understood\n";
 
 const READ_FAULT: &str = "pdesmas: the input cannot be read\n";
@@ -172,7 +175,15 @@ impl Left {
     }
 }
 
-/// Calls the program with these words. That a sink in memory found no memory for itself is a fault of the sink alone.
+/// What a call left, unless memory ran out: in the call, or in a sink, whose own fault that is.
+fn left_of(status: u8, out: MemSink, err: MemSink) -> Result<Left, AllocError> {
+    if status == MEMORY || out.wants() > 0 || err.wants() > 0 {
+        return Err(AllocError);
+    }
+    Ok(Left { status, out, err })
+}
+
+/// Calls the program with these words.
 fn run(alloc: Global, words: &[&str], devices: Devices) -> Result<Left, AllocError> {
     let words = words_of(alloc, words)?;
     let Devices {
@@ -181,14 +192,7 @@ fn run(alloc: Global, words: &[&str], devices: Devices) -> Result<Left, AllocErr
         mut err,
     } = devices;
     let report = plain(alloc, &words, &mut input, &mut out, &mut err);
-    if out.wants() > 0 || err.wants() > 0 {
-        return Err(AllocError);
-    }
-    Ok(Left {
-        status: report.status,
-        out,
-        err,
-    })
+    left_of(report.status, out, err)
 }
 
 /// The same with devices that never fail.
@@ -274,11 +278,7 @@ fn the_counter_through_top(rt: HostRuntime) -> Result<(), Fail> {
     let report = top(
         &rt, alloc, &words, &mut input, &mut out, &mut err, &FreeGate,
     );
-    let left = Left {
-        status: report.status,
-        out,
-        err,
-    };
+    let left = left_of(report.status, out, err)?;
     assert!(rt; left.is(0, TRACE, ""));
     Ok(())
 }
@@ -340,11 +340,7 @@ fn a_scenario_past_the_limit(rt: HostRuntime) -> Result<(), Fail> {
     let mut out = MemSink::new(alloc, Vec::new(alloc));
     let mut err = MemSink::new(alloc, Vec::new(alloc));
     let report = plain(alloc, &words, &mut input, &mut out, &mut err);
-    let left = Left {
-        status: report.status,
-        out,
-        err,
-    };
+    let left = left_of(report.status, out, err)?;
     assert!(rt;
         left.is(
             2,

@@ -1,20 +1,14 @@
 use crate::{Stop, Symbol, Token, code, lex, lines_of, name_of};
+use pm_base::Memory;
 use std::alloc::Global;
 use std::test::Fail;
 
-/// Whether a line has that many tokens.
-fn has_tokens(alloc: Global, line: &str, count: usize) -> bool {
+/// How many tokens a line has, none where some of its characters are no token.
+fn count_of(alloc: Global, line: &str) -> Result<Option<usize>, Memory> {
     match lex(alloc, line.as_bytes()) {
-        Ok(tokens) => tokens.len() == count,
-        Err(_) => false,
-    }
-}
-
-/// Whether some characters of a line are no token.
-fn is_refused(alloc: Global, line: &str) -> bool {
-    match lex(alloc, line.as_bytes()) {
-        Ok(_) => false,
-        Err(stop) => matches!(stop, Stop::Word),
+        Ok(tokens) => Ok(Some(tokens.len())),
+        Err(Stop::Word) => Ok(None),
+        Err(Stop::Memory) => Err(Memory),
     }
 }
 
@@ -27,10 +21,7 @@ fn is_name(token: &Token<'_>, word: &[u8]) -> bool {
 
 #[test]
 fn a_line_is_cut_by_longest_match(rt: HostRuntime) -> Result<(), Fail> {
-    let Ok(tokens) = lex(rt.alloc(), b"a_1<=-9223372036854775808-b") else {
-        assert!(rt; false, "tokens");
-        return Ok(());
-    };
+    let tokens = lex(rt.alloc(), b"a_1<=-9223372036854775808-b")?;
     match tokens.as_slice() {
         [a, at_most, least, minus, b] => {
             assert!(rt; is_name(a, b"a_1"));
@@ -56,7 +47,7 @@ fn tokens_are_counted_or_refused(rt: HostRuntime) -> Result<(), Fail> {
         ("(1 -1)", 4),
     ];
     for (line, count) in rows {
-        assert!(rt; has_tokens(alloc, line, count), "{line}");
+        assert!(rt; count_of(alloc, line)? == Some(count), "{line}");
     }
     for line in [
         "!",
@@ -67,7 +58,7 @@ fn tokens_are_counted_or_refused(rt: HostRuntime) -> Result<(), Fail> {
         "-9223372036854775809",
         "a\r",
     ] {
-        assert!(rt; is_refused(alloc, line), "{line}");
+        assert!(rt; count_of(alloc, line)?.is_none(), "{line}");
     }
     Ok(())
 }
