@@ -1,5 +1,5 @@
 -- The worked outputs and refusals, computed.
-use Rattle.std.proofs.Common.{◌≡◌, ◌++◌, length, take, refl, ap, ◌∙◌}
+use Rattle.std.proofs.Common.{◌≡◌, length, take, refl, ap, ◌∙◌}
 use Rattle.std.specs.Fmt.{digits}
 use Rattle.std.specs.Prelude.{codes}
 use Rattle.pm_model.proofs.ExampleLaws.{counter-run}
