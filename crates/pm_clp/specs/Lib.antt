@@ -1,0 +1,2 @@
+pub mod Clps
+pub mod Takes
