@@ -1,5 +1,4 @@
 ghost use Rattle.std.specs.Prelude.{◌≡◌, ◌↔◌, false, not, IsTrue, IfOk, OnOk, OnErr};
-ghost use Rattle.pm_base.specs.Stamps.{is_below};
 ghost use Rattle.pm_base.specs.Windows.{is_inverted};
 ghost use Rattle.pm_ranges.specs.Known.{Grows, IsCovered, bound_at, covers, grown, last_covered, nothing_known, trimmed};
 
@@ -62,10 +61,9 @@ impl Bounds {
         Ok(true)
     }
 
-    /// The join of the windows that were grown over the stamp: none exactly where there is none. The stamp isn't below
-    /// the line. Its piece is found by halving.
+    /// The join of the windows that were grown over the stamp: none exactly where there is none. Its piece is found by
+    /// halving. At a stamp below the line it tells what is left of the pieces there, which means nothing.
     pub fn bound_at(&self, s: Stamp) -> Option<Window>
-        requires { is_below s self.now.line ≡ false }
         ensures { result ≡ bound_at self.now s }
     {
         bound_of(self.pieces.as_slice(), &self.rest, s)
