@@ -75,6 +75,58 @@ def opened(path, tool):
         raise Stop(f"{path}: {error.strerror}") from None
 
 
+def scenario_of(path):
+    """The scenario in the file of that name; Stop where it is refused."""
+    import model
+
+    try:
+        with open(path, "rb") as it:
+            return model.read(it.read())
+    except OSError as error:
+        raise Stop(f"{path}: {error.strerror}") from None
+    except model.Refusal as refusal:
+        raise Stop(f"{path}: {refusal.text} (tools/explain says more)") from None
+
+
+def replay(scenario, trace):
+    """Does the changes of a trace anew: gives (time, values), where values is a dict by name, first (-1, start values),
+    then at the end of each time in which a step was done. It is one dict, that changes. Stop where a step saw something
+    else than the scenario and the changes before it make: then they don't belong together."""
+    from model import held
+
+    values = {it["name"]: (it.get("x", 0), it.get("y", 0)) for it in scenario.parts["var"]}
+    yield -1, values
+    last = None
+    for number, step in enumerate(steps(trace), 1):
+        if last is not None and step.time != last:
+            yield last, values
+        last = step.time
+        for variable, *seen in [hit for answer in step.answers for hit in answer]:
+            if values.get(variable) != tuple(seen):
+                raise Stop(f"line {number} of the trace isn't of this scenario: {variable} is {values.get(variable)}")
+        for variable, word, x, y in step.changes:
+            if variable not in values:
+                raise Stop(f"line {number} of the trace isn't of this scenario: there is no {variable}")
+            old = values[variable]
+            values[variable] = (x, y) if word == "set" else (held(old[0] + x), held(old[1] + y))
+    if last is not None:
+        yield last, values
+
+
+def members_of(scenario, names):
+    """The variables of these classes, or those with these names, in the scenario's order; all where none is given."""
+    every = [it["name"] for it in scenario.parts["var"]]
+    if not names:
+        return every
+    wanted = set()
+    for name in names:
+        found = {every[it] for it in scenario.classes.get(name, [])} or {name} & set(every)
+        if not found:
+            raise Stop(f"the scenario has no class and no variable {name}")
+        wanted |= found
+    return [it for it in every if it in wanted]
+
+
 def options(tool, text):
     """A reader of the command line, with the tool's own text as its help."""
     plain = argparse.RawDescriptionHelpFormatter
