@@ -1,0 +1,51 @@
+ghost use Rattle.std.specs.Prelude.{◌≡◌};
+ghost use Rattle.pm_words.specs.Words.{mode_named};
+
+use pm_base::RunSettings;
+use thiserror::Error;
+
+/// What the program does.
+#[derive(Clone, Copy, Debug, PartialEq, Eq)]
+pub enum Mode {
+    /// The sequential run of a scenario.
+    Seq,
+    /// How many parts a scenario has.
+    Check,
+}
+
+/// What the words ask for. An option that the mode doesn't use has no effect.
+#[derive(Clone, Copy, Debug, PartialEq, Eq)]
+pub struct Settings {
+    pub mode: Mode,
+    /// How a run goes; `budget` is counted in steps where the mode is `Seq`.
+    pub run: RunSettings,
+    /// The number of the generated scenario.
+    pub seed: u64,
+    /// Whether the journal is written behind the trace.
+    pub journal: bool,
+    /// The time at which a scenario is cut.
+    pub from: u64,
+}
+
+/// Why there are no settings.
+#[derive(Clone, Copy, Debug, PartialEq, Eq, Error)]
+pub enum WordsFault {
+    #[error("the words are not understood")]
+    Words,
+    #[error("out of memory")]
+    Memory,
+}
+
+/// The mode of this name: one line for each mode that the program serves.
+#[tactic(auto, unfolding(crate::specs::Words::mode_named))]
+pub fn mode_named(word: &str) -> Option<Mode>
+    ensures { result ≡ mode_named word.now }
+{
+    if word == "seq" {
+        Some(Mode::Seq)
+    } else if word == "check" {
+        Some(Mode::Check)
+    } else {
+        None
+    }
+}
