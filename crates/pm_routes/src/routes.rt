@@ -1,6 +1,6 @@
 ghost use Rattle.std.specs.Prelude.{◌≡◌, ◌<◌, ◌↔◌, ◌&&◌, nat_lt, nat_le, length, if◌then◌else◌, IfOk, Some, None};
 ghost use Rattle.pm_routes.specs.declared.way.Way.TheVariants as way;
-ghost use Rattle.pm_routes.specs.Routings.{IsDrawn, arrived, counted, first_routing, is_drawn, left, way_at};
+ghost use Rattle.pm_routes.specs.Routings.{IsDrawn, arrived, counted, first_routing, is_drawn, left, place_of, way_at};
 
 use crate::counts::Counts;
 use crate::places::Places;
@@ -63,6 +63,14 @@ impl Routes {
         ensures { way_at self.now var ≡ Some result }
     {
         self.ways.as_slice()[var as usize]
+    }
+
+    /// The place of the port among the tree ports, counted from 0; how many there are where it is none of them. It is
+    /// found in an ordered map.
+    pub fn place_of(&self, port: u32) -> usize
+        ensures { result ≡ place_of self.now.ports port }
+    {
+        self.places.of(port)
     }
 
     /// The variable goes to that port. Its counts stay.
