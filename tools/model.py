@@ -201,11 +201,11 @@ class Rule:
                 self.lines.append((number, made))
                 self.keep(made, number, opened, parts)
             except Fault as fault:
-                fault.line = number
+                fault.line, fault.rule = number, self
                 raise
         if opened:
             fault = Fault(FIT)
-            fault.line = len(pieces) + 1
+            fault.line, fault.rule = len(pieces) + 1, self
             raise fault
 
     def tokens_in(self, piece, number):
