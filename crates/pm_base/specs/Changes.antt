@@ -1,6 +1,7 @@
 -- What a change makes of a value.
-use Rattle.std.specs.Prelude.{ℤ, ◌+ℤ◌}
+use Rattle.std.specs.Prelude.{ℤ, ◌+ℤ◌, ◌&&◌, Bool}
 use Rattle.std.specs.Int.{w64, saturate_signed}
+use Rattle.std.specs.Ordering.{int_eq}
 use Rattle.pm_base.specs.declared.value.Change.{Change}
 use Rattle.pm_base.specs.declared.value.Change.TheVariants as change
 use Rattle.pm_base.specs.declared.value.Value.{Value}
@@ -13,3 +14,7 @@ sum_within a b = saturate_signed w64 (a +ℤ b)
 abbrev pub applied : Change → Value → Value
 applied (change.Set w) v = w
 applied (change.Add w) v = record { x = sum_within v.x w.x; y = sum_within v.y w.y }
+
+-- the two are the same value
+abbrev pub value_eq : Value → Value → Bool
+value_eq v w = int_eq v.x w.x && int_eq v.y w.y

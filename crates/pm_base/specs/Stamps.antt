@@ -47,6 +47,10 @@ line_lt line.End b = false
 abbrev pub num_lt : Num → Num → Bool
 num_lt a b = nat_lt a.agent b.agent || (a.agent == b.agent && nat_lt a.seq b.seq)
 
+-- the two are the same number
+abbrev pub num_eq : Num → Num → Bool
+num_eq a b = a.agent == b.agent && a.seq == b.seq
+
 -- the lesser of a moment and a line
 abbrev pub or_lower : Stamp → Line → Line
 or_lower s l = if is_below s l then line.At s else l

@@ -10,7 +10,8 @@ use Rattle.pm_base.specs.declared.rows.ReadRow.{ReadRow}
 use Rattle.pm_base.specs.declared.stamp.Stamp.{Stamp}
 use Rattle.pm_base.specs.declared.value.Value.{Value}
 use Rattle.pm_periods.specs.Records.{HaveTurns, changed_of, fresh_read, given_when, hit_by, hit_eq, is_stale, next_give, with_hit}
-use Rattle.pm_periods.specs.Rows.{AreDistinct, IsInOrder, has_num, key_lt, num_eq, read_key}
+use Rattle.pm_base.specs.Stamps.{num_eq}
+use Rattle.pm_periods.specs.Rows.{AreDistinct, IsInOrder, has_num, key_lt, read_key}
 
 pub hit_eq-self : (h : Option Value) → hit_eq h h ≡ true
 hit_eq-self None = refl

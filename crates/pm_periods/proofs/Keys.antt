@@ -5,7 +5,8 @@ use Rattle.std.proofs.lemmas.Bool.Decides.{nat_tests}
 use Rattle.pm_base.specs.Stamps.{stamp_lt, num_lt}
 use Rattle.pm_base.specs.declared.stamp.Num.{Num}
 use Rattle.pm_base.specs.declared.stamp.Stamp.{Stamp}
-use Rattle.pm_periods.specs.Rows.{key_lt, num_eq}
+use Rattle.pm_base.specs.Stamps.{num_eq}
+use Rattle.pm_periods.specs.Rows.{key_lt}
 use Rattle.pm_periods.specs.declared.rows.RowKey.{RowKey}
 
 pub num_eq-self : (n : Num) → num_eq n n ≡ true

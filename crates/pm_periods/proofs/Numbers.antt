@@ -6,7 +6,8 @@ use Rattle.std.proofs.lemmas.List.{take_more}
 use Rattle.std.proofs.lemmas.List.Elements.{filter-append}
 use Rattle.pm_base.specs.declared.stamp.Num.{Num}
 use Rattle.pm_periods.specs.Places.{number_place}
-use Rattle.pm_periods.specs.Rows.{AreDistinct, IsInOrder, add_rows, differs_from, first_rows, has_num, key_lt, num_eq, rows_in_order}
+use Rattle.pm_base.specs.Stamps.{num_eq}
+use Rattle.pm_periods.specs.Rows.{AreDistinct, IsInOrder, add_rows, differs_from, first_rows, has_num, key_lt, rows_in_order}
 use Rattle.pm_periods.specs.declared.rows.RowKey.{RowKey}
 use Rattle.pm_periods.proofs.Keys.{num_eq-flip, num_eq-same}
 use Rattle.pm_periods.proofs.Ordered.{add_rows-in_order, each_filter, filter_distinct, filter_in_order}

@@ -22,7 +22,8 @@ use Rattle.pm_base.specs.declared.value.Window.{Window}
 use Rattle.pm_periods.specs.Inner.{IsSound, parts_of}
 use Rattle.pm_periods.specs.Places.{number_place}
 use Rattle.pm_periods.specs.Records.{IsSettled, after_cut, after_put, after_watch, changed_of, first_read, fresh_read, given_when, gives_of_cut, gives_of_put, gives_of_watch, hit_by, hit_eq, hit_in, is_live, is_seen, is_stale, last_give, next_give, record_hit, record_value, refreshed, value_after, value_below, with_cut, with_put, with_read}
-use Rattle.pm_periods.specs.Rows.{AreDistinct, IsInOrder, add_row, cut_key, has_num, key_lt, num_eq, put_key, read_key}
+use Rattle.pm_base.specs.Stamps.{num_eq}
+use Rattle.pm_periods.specs.Rows.{AreDistinct, IsInOrder, add_row, cut_key, has_num, key_lt, put_key, read_key}
 use Rattle.pm_periods.specs.Walks.{CannotSee, held_key, held_row, held_value, marked, seen_by, withdrawn_at}
 use Rattle.pm_periods.specs.declared.held.Held.{Held}
 use Rattle.pm_periods.specs.declared.record.VarRecord.TheInside.{Inside}

@@ -15,7 +15,8 @@ use Rattle.pm_base.specs.declared.stamp.Stamp.{Stamp}
 use Rattle.pm_base.specs.declared.value.Value.{Value}
 use Rattle.pm_periods.specs.Inner.{IsSound, parts_of}
 use Rattle.pm_periods.specs.Records.{IsSettled, cut_stays, hit_in, is_live, is_seen, put_stays, read_stays, record_hit, record_value, trimmed, value_after, value_below}
-use Rattle.pm_periods.specs.Rows.{IsInOrder, cut_key, has_num, key_lt, num_eq, put_key, read_key}
+use Rattle.pm_base.specs.Stamps.{num_eq}
+use Rattle.pm_periods.specs.Rows.{IsInOrder, cut_key, has_num, key_lt, put_key, read_key}
 use Rattle.pm_periods.specs.Walks.{cut_is_kept, held_key, held_row, held_stays, marked}
 use Rattle.pm_periods.specs.declared.held.Held.{Held}
 use Rattle.pm_periods.specs.declared.record.VarRecord.TheInside.{Inside}

@@ -3,8 +3,7 @@ use Rattle.std.specs.Prelude.{◌≡◌, ℕ, ◌+◌, ◌<◌, ◌^◌, ◌-◌
 use Rattle.std.specs.Prelude.{false, not, if◌then◌else◌, List, [], ◌∷◌, length, map, filter, Option, Some}
 use Rattle.std.specs.Prelude.{None}
 use Rattle.std.specs.List.{AllByRecursion}
-use Rattle.std.specs.Ordering.{int_eq}
-use Rattle.pm_base.specs.Changes.{applied}
+use Rattle.pm_base.specs.Changes.{applied, value_eq}
 use Rattle.pm_base.specs.Stamps.{is_below}
 use Rattle.pm_base.specs.Windows.{inside}
 use Rattle.pm_base.specs.declared.rows.CutRow.{CutRow}
@@ -64,7 +63,7 @@ abbrev pub hit_eq : Option Value → Option Value → Bool
 hit_eq None None = true
 hit_eq None (Some w) = false
 hit_eq (Some v) None = false
-hit_eq (Some v) (Some w) = int_eq v.x w.x && int_eq v.y w.y
+hit_eq (Some v) (Some w) = value_eq v w
 
 -- the read was last given another hit
 abbrev pub is_stale : (Stamp → Value) → ReadRow → Bool

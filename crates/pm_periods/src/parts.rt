@@ -22,6 +22,25 @@ impl VarRecord {
         })
     }
 
+    /// The record as plain lists, of which `from_parts` makes the same record; cuts and reads are moved, not copied.
+    pub fn into_parts(self, alloc: Global) -> Result<Parts, Memory>
+        ensures { IfOk result (λ parts. parts ≡ self.parts) }
+    {
+        let VarRecord {
+            base,
+            puts,
+            cuts,
+            reads,
+            ..
+        } = self;
+        Ok(Parts {
+            base,
+            puts: List::from_vec(rows_of(alloc, puts.as_slice())?),
+            cuts: List::from_vec(cuts),
+            reads: List::from_vec(reads),
+        })
+    }
+
     /// The settled record of any lists: each in order, the first row of each number, and each read with the hit that
     /// it has in this record, its turn as it was.
     pub fn from_parts(alloc: Global, var: u32, parts: &Parts) -> Result<VarRecord, Memory>

@@ -40,17 +40,17 @@ impl Model for VarRecord {
 }
 
 impl VarRecord {
-    /// A record without a row. It takes no memory: `alloc` is where later rows take it from.
-    pub fn new(alloc: Global, var: u32, base: Value) -> VarRecord
-        ensures { result ≡ empty_record var base }
+    /// A record that has received nothing. Later rows take memory from `alloc` too.
+    pub fn new(alloc: Global, var: u32, base: Value) -> Result<VarRecord, Memory>
+        ensures { IfOk result (λ made. made ≡ empty_record var base) }
     {
-        VarRecord {
+        Ok(VarRecord {
             var,
             base,
             puts: Vec::new(alloc),
             cuts: Vec::new(alloc),
             reads: Vec::new(alloc),
-        }
+        })
     }
 
     /// Receives a write, and tells the changed hits in order of the reads' stamps and numbers.

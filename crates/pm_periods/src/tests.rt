@@ -125,7 +125,7 @@ type Wants = (Option<Given>, Option<Given>);
 
 // Tells a new record of variable 4, at (0,0), these rows one after another; each must give its hits.
 fn follows(rt: &impl Abort, alloc: Global, rows: &[(Told, Wants)]) -> Result<(), Fail> {
-    let mut record = VarRecord::new(alloc, 4, pair(0, 0));
+    let mut record = VarRecord::new(alloc, 4, pair(0, 0))?;
     for (told, want) in rows {
         let gives = tell(alloc, &mut record, told)?;
         assert_eq!(rt; gives.get(0).map(given), want.0);
@@ -326,7 +326,7 @@ fn put(n: (u32, u64), s: (u64, u32), change: Change) -> PutRow {
 
 // The worked record, up to its withdrawal and its second read.
 fn worked(alloc: Global) -> Result<VarRecord, Fail> {
-    let mut record = VarRecord::new(alloc, 4, pair(0, 0));
+    let mut record = VarRecord::new(alloc, 4, pair(0, 0))?;
     let rows = [
         Told::Watch((1, 1), (5, 1), Window::whole()),
         Told::Put((0, 1), (3, 0), set(7)),
@@ -384,7 +384,7 @@ fn worked_record_seen_and_trimmed(rt: HostRuntime) -> Result<(), Fail> {
 #[test]
 fn two_writes_of_one_stamp_end_one_period(rt: HostRuntime) -> Result<(), Fail> {
     let alloc = rt.alloc();
-    let mut record = VarRecord::new(alloc, 0, pair(0, 0));
+    let mut record = VarRecord::new(alloc, 0, pair(0, 0))?;
     tell(alloc, &mut record, &Told::Put((0, 2), (3, 0), add(1)))?;
     tell(alloc, &mut record, &Told::Put((0, 1), (3, 0), set(5)))?;
     let periods = record.periods_from(alloc, None)?;
@@ -396,7 +396,7 @@ fn two_writes_of_one_stamp_end_one_period(rt: HostRuntime) -> Result<(), Fail> {
 #[test]
 fn thousand_periods(rt: HostRuntime) -> Result<(), Fail> {
     let alloc = rt.alloc();
-    let mut record = VarRecord::new(alloc, 0, pair(0, 0));
+    let mut record = VarRecord::new(alloc, 0, pair(0, 0))?;
     for k in 0u32..1000 {
         let n = k as u64;
         let gives = tell(
@@ -435,7 +435,7 @@ fn disordered(alloc: Global) -> Result<Parts, Fail> {
 fn disordered_parts_settle(rt: HostRuntime) -> Result<(), Fail> {
     let alloc = rt.alloc();
     let record = VarRecord::from_parts(alloc, 4, &disordered(alloc)?)?;
-    let parts = record.to_parts(alloc)?;
+    let parts = record.into_parts(alloc)?;
     let puts = [put((0, 1), (2, 0), set(1)), put((0, 2), (9, 0), set(3))];
     assert_eq!(rt; parts.puts.as_slice(), puts.as_slice());
     let turns = [3, 0];

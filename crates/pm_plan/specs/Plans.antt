@@ -2,8 +2,9 @@
 use Rattle.std.specs.Prelude.{◌≡◌, ℕ, suc, ◌+◌, ◌^◌, ◌<◌, Bool, true, false, ◌||◌, ◌&&◌}
 use Rattle.std.specs.Prelude.{if◌then◌else◌, nat_lt, nat_le, List, [], ◌∷◌, length, take, get_or, map}
 use Rattle.std.specs.Prelude.{Option, Some, None, is_none, option_map, unwrap_or, Result, Ok, Err, drop}
-use Rattle.std.specs.List.{flat_map, list_all, list_any}
+use Rattle.std.specs.List.{AllByRecursion, flat_map, list_all, list_any}
 use Rattle.pm_base.specs.Fits.{fits}
+use Rattle.pm_base.specs.Windows.{IsPair}
 use Rattle.pm_base.specs.declared.layout.ClassRow.{ClassRow}
 use Rattle.pm_plan.specs.Numbers.{least, number_of, name_at, first_wrong, first_repeat}
 use Rattle.pm_plan.specs.Trees.{parent, ups}
@@ -174,11 +175,16 @@ abbrev pub rules_fit : List ClassPart → List AgentPart → Bool
 rules_fit classes agents =
     list_all (λ (a : AgentPart). fits a.program (record { classes = class_rows 0 classes })) agents
 
--- a plan is valid where it is the plan of some parts whose rules fit
+-- each of these variables begins with a pair of numbers of 64 bits
+abbrev pub HavePairs : List VarRow → Type 0
+HavePairs rows = AllByRecursion (λ (r : VarRow). IsPair r.value) rows
+
+-- a plan is valid where it is the plan of some parts whose rules fit, and its values are pairs of numbers of 64 bits
 pub record IsValid (plan : Plan) : Type 0 where
   pub parts : PlanParts
   pub made : plan_of parts ≡ Ok plan
   pub rules : rules_fit parts.classes parts.agents ≡ true
+  pub pairs : HavePairs plan.vars
 
 -- a communication process with the name of its parent in place of the number
 abbrev pub own_clp : List (List ℕ) → ClpRow → ClpPart

@@ -1,7 +1,8 @@
 ghost use Rattle.std.specs.Prelude.{◌≡◌, [], ◌∷◌, ◌++◌, ◌+◌, ◌<◌, ◌^◌, List as Seq, ℕ};
 ghost use Rattle.std.specs.Prelude.{length, map, IfOk, OnOk};
 ghost use Rattle.pm_plan.specs.Directories.{KnowsNames};
-ghost use Rattle.pm_plan.specs.Plans.{all_vars, class_rows, clp_row, var_row, agent_row, numbered};
+ghost use Rattle.pm_base.specs.Windows.{IsPair};
+ghost use Rattle.pm_plan.specs.Plans.{HavePairs, all_vars, class_rows, clp_row, var_row, agent_row, numbered};
 
 use crate::numbers::Directory;
 use crate::{AgentPart, AgentRow, ClassPart, ClpPart, ClpRow, Plan, PlanParts, VarPart, VarRow};
@@ -22,7 +23,8 @@ fn clp_row(clps: &Directory, part: ClpPart) -> ClpRow
 }
 
 fn var_row(clps: &Directory, part: VarPart) -> VarRow
-    ensures { (names : Seq (Seq ℕ)) → KnowsNames clps.now names → result ≡ var_row names part }
+    ensures row { (names : Seq (Seq ℕ)) → KnowsNames clps.now names → result ≡ var_row names part }
+    ensures pair { IsPair result.value }
 {
     let VarPart { name, at, value } = part;
     VarRow {
@@ -85,6 +87,7 @@ fn push_vars(
     ensures rows { (names : Seq (Seq ℕ)) → KnowsNames clps.now names →
         OnOk result (rows.new ≡ rows.old ++ map (var_row names) parts) }
     ensures count { OnOk result (length rows.new ≡ length rows.old + length parts) }
+    ensures pairs { HavePairs rows.old → OnOk result (HavePairs rows.new) }
 {
     for part in parts.into_vec() {
         rows.push(var_row(clps, part))?;
@@ -110,6 +113,7 @@ impl Classes {
         ensures vars { (names : Seq (Seq ℕ)) → KnowsNames clps.now names →
             OnOk result (self.new.vars ≡ self.old.vars ++ map (var_row names) class.vars) }
         ensures count { OnOk result (length self.new.vars ≡ length self.old.vars + length class.vars) }
+        ensures pairs { HavePairs self.old.vars → OnOk result (HavePairs self.new.vars) }
     {
         let ClassPart { name, vars } = class;
         let row = ClassRow {
@@ -128,6 +132,7 @@ fn all_classes(alloc: Global, clps: &Directory, parts: List<ClassPart>) -> Resul
     ensures names { IfOk result (λ c. c.names ≡ map (λ p. p.name) parts) }
     ensures vars { (names : Seq (Seq ℕ)) → KnowsNames clps.now names →
         IfOk result (λ c. c.vars ≡ map (var_row names) (all_vars parts)) }
+    ensures pairs { IfOk result (λ c. HavePairs c.vars) }
 {
     let mut all = Classes {
         rows: List::new(alloc),
@@ -145,7 +150,8 @@ fn all_classes(alloc: Global, clps: &Directory, parts: List<ClassPart>) -> Resul
 pub fn numbered(alloc: Global, parts: PlanParts) -> Result<Plan, Memory>
     requires clps { length parts.clps < 2 ^ 32 }
     requires vars { length (all_vars parts.classes) < 2 ^ 32 }
-    ensures { IfOk result (λ plan. plan ≡ numbered parts) }
+    ensures made { IfOk result (λ plan. plan ≡ numbered parts) }
+    ensures pairs { IfOk result (λ plan. HavePairs plan.vars) }
 {
     let directory = Directory::make(alloc, parts.clps.as_slice())?;
     let classes = all_classes(alloc, &directory, parts.classes)?;

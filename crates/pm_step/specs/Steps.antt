@@ -3,6 +3,7 @@ use Rattle.std.specs.Prelude.{◌≡◌, ℕ, ◌<◌, ◌≤◌, Bool, true, fa
 use Rattle.std.specs.Prelude.{List, [], ◌∷◌, ◌++◌, length, slice_get, Option, Some, None, ℤ, pos, negsuc}
 use Rattle.std.specs.Prelude.{set, map}
 use Rattle.std.specs.List.{AllPairs, filter}
+use Rattle.std.specs.Int.{w64, saturate_signed}
 use Rattle.pm_base.specs.Layouts.{class_row, member_of}
 use Rattle.pm_base.specs.declared.program.Expr.{Expr}
 use Rattle.pm_base.specs.declared.program.Place.{Place}
@@ -32,9 +33,9 @@ abbrev pub variable : Sight → Place → ℕ
 variable s (Var v) = v
 variable s (Member class at) = member_of (class_row s.classes class) (value s at)
 
--- the pair of two expressions
+-- the pair of two expressions, brought back to the ends of 64 bits
 abbrev pub pair : Sight → Expr → Expr → Value
-pair s x y = record { x = value s x; y = value s y }
+pair s x y = record { x = saturate_signed w64 (value s x); y = saturate_signed w64 (value s y) }
 
 -- what a sense asks for
 abbrev pub query_of : Sight → Sense → Query

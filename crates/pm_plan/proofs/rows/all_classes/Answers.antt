@@ -18,6 +18,7 @@ loop-class-preserved c =
       vars = λ names k. c.in_ok-push.ensures.vars names k ∙ (ap (λ vs. vs ++ map (var_row names) x.vars) (c.loop-class.invariant.vars names k)
           ∙ (sym (map-append (var_row names) (all_vars xs) x.vars) ∙ ap (map (var_row names)) (sym (all_vars-push xs x))));
       count = (let e = all_vars-count xs x in c.in_ok-push.ensures.count ∙ omega (arith, e, c.loop-class.invariant.count));
+      pairs = c.in_ok-push.ensures.pairs c.loop-class.invariant.pairs;
     }
 
 pub push-requires : goal.push-requires

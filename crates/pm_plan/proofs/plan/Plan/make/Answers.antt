@@ -14,7 +14,7 @@ returns-in_err-check_counts-clause-refused c =
 pub check-requires : goal.check-requires
 check-requires c =
     let same = same_counts _ _ _ _ _ _ _ _ c.len.ensures c.len-2.ensures (c.count_vars-vars.ensures ∙ ap (λ cs. length (all_vars cs)) c.as_slice.ensures) c.len-3.ensures in
-    few_parts c.args.parts c.in_ok-plan.plan c.in_ok-plan.ensures (sym same ∙ passed_ok _ _ (sym c.check_counts.ensures ∙ c.in_ok-check_counts.was))
+    few_parts c.args.parts c.in_ok-plan.plan c.in_ok-plan.ensures.made (sym same ∙ passed_ok _ _ (sym c.check_counts.ensures ∙ c.in_ok-check_counts.was))
 
 pub returns-in_err-check-clause-refused : goal.returns-in_err-check-clause-refused
 returns-in_err-check-clause-refused c =
@@ -23,17 +23,17 @@ returns-in_err-check-clause-refused c =
     let counted = sym same ∙ passed_ok _ _ (sym c.check_counts.ensures ∙ c.in_ok-check_counts.was) in
     passed_on (λ g. (g ≡ fault.Memory) ⊎ (plan_of c.args.parts ≡ Err g)) c.from_residual-in_err-check.result f c.from_residual-in_err-check.ensures.1 (elim c.check.ensures [
       | inl m ↦ inl (let e = sym c.in_err-check.was ∙ m in cc)
-      | inr r ↦ inr (later_refused c.args.parts c.in_ok-plan.plan f c.in_ok-plan.ensures counted (passed_err _ _ (sym r ∙ c.in_err-check.was)))
+      | inr r ↦ inr (later_refused c.args.parts c.in_ok-plan.plan f c.in_ok-plan.ensures.made counted (passed_err _ _ (sym r ∙ c.in_err-check.was)))
     ])
 
 pub returns-clause-made : goal.returns-clause-made
 returns-clause-made c =
     let same = same_counts _ _ _ _ _ _ _ _ c.len.ensures c.len-2.ensures (c.count_vars-vars.ensures ∙ ap (λ cs. length (all_vars cs)) c.as_slice.ensures) c.len-3.ensures in
     let counted = sym same ∙ passed_ok _ _ (sym c.check_counts.ensures ∙ c.in_ok-check_counts.was) in
-    plan_made c.args.parts c.in_ok-plan.plan c.in_ok-plan.ensures counted (elim c.check.ensures [
+    plan_made c.args.parts c.in_ok-plan.plan c.in_ok-plan.ensures.made counted (elim c.check.ensures [
       | inl m ↦ absurd (let e = sym c.in_ok-check.was ∙ m in cc)
       | inr r ↦ passed_ok _ _ (sym r ∙ c.in_ok-check.was)
     ])
 
 pub returns-clause-valid : goal.returns-clause-valid
-returns-clause-valid c = record { parts = c.args.parts; made = returns-clause-made c; rules = c.requires.rules }
+returns-clause-valid c = record { parts = c.args.parts; made = returns-clause-made c; rules = c.requires.rules; pairs = c.in_ok-plan.ensures.pairs }
