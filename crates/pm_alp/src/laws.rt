@@ -1,0 +1,22 @@
+// Laws of the definitions.
+ghost use Rattle.std.specs.Prelude.{◌≡◌, ◌≤◌, Some};
+ghost use Rattle.pm_alp.specs.Agents.{Actor, agent_after, no_agent, no_sends};
+ghost use Rattle.pm_alp.specs.declared.agent.Agent.{Agent as TheAgent};
+ghost use Rattle.pm_base.specs.declared.rows.GiveRow.{GiveRow as TheGive};
+ghost use Rattle.pm_base.specs.declared.stamp.Num.{Num as TheNum};
+ghost use Rattle.pm_base.specs.declared.stamp.Stamp.{Stamp as TheStamp};
+ghost use Rattle.pm_message.specs.declared.Message.TheVariants as message;
+ghost use Rattle.pm_saved.specs.Senses.{kept_turn};
+ghost use Rattle.pm_saved.specs.Spots.{Spot, find};
+
+/// An agent that awaits nothing does nothing at a Wake.
+pub fn no_wake_without_waiting()
+    ensures { (p : Actor) (n : TheNum) (s : TheStamp) →
+        agent_after p no_agent (message.Wake n s) ≡ no_sends no_agent }
+{}
+
+/// A hit whose turn isn't above the kept one changes nothing, and nothing is sent.
+pub fn an_older_turn_changes_nothing()
+    ensures { (p : Actor) (a : TheAgent) (r : TheGive) (spot : Spot) → find r.num a.steps ≡ Some spot →
+        r.turn ≤ kept_turn r.var spot.sense.hits → agent_after p a (message.Give r) ≡ no_sends a }
+{}

@@ -1,0 +1,9 @@
+//! An agent's side of the optimistic core: it runs ahead on what it was told, keeps each step until it is committed, and
+//! goes back where a hit changes.
+#![tactic(auto)]
+
+mod agent;
+mod laws;
+
+pub use agent::{Agent, Awaited};
+pub use laws::{an_older_turn_changes_nothing, no_wake_without_waiting};

@@ -1,0 +1,4 @@
+pub mod Laws
+pub mod Senses
+pub mod Spots
+pub mod Steps

@@ -1,0 +1,49 @@
+-- Where a number stands among the kept steps.
+use Rattle.std.specs.Prelude.{if◌then◌else◌, List, [], ◌∷◌, Option, Some, None}
+use Rattle.pm_base.specs.Stamps.{num_eq}
+use Rattle.pm_base.specs.declared.stamp.Num.{Num}
+use Rattle.pm_saved.specs.declared.kept.KeptSense.{KeptSense}
+use Rattle.pm_saved.specs.declared.kept.KeptStep.{KeptStep}
+
+-- a sense's place among all kept steps: the steps before its step, that step, its senses before it, it, those after it,
+-- and the steps after its step
+pub record Spot : Type 0 where
+  pub front : List KeptStep
+  pub here : KeptStep
+  pub before : List KeptSense
+  pub sense : KeptSense
+  pub later : List KeptSense
+  pub rest : List KeptStep
+
+-- a sense's place in its step: the senses before it, it, and those after it
+pub record InStep : Type 0 where
+  pub before : List KeptSense
+  pub sense : KeptSense
+  pub later : List KeptSense
+
+-- the same place, with one more sense before it
+abbrev pub in_front : KeptSense → Option InStep → Option InStep
+in_front x None = None
+in_front x (Some i) = Some (record i { before = x ∷ i.before })
+
+-- the place of the first sense of this number; None where there is none
+abbrev pub find_sense : Num → List KeptSense → Option InStep
+find_sense n [] = None
+find_sense n (x ∷ xs) =
+    if num_eq n x.num then Some (record { before = []; sense = x; later = xs }) else in_front x (find_sense n xs)
+
+-- the same place, with one more step before it
+abbrev pub step_in_front : KeptStep → Option Spot → Option Spot
+step_in_front x None = None
+step_in_front x (Some i) = Some (record i { front = x ∷ i.front })
+
+-- the place in the first step, where there is one, else the place among the steps after it
+abbrev pub spot_in : KeptStep → List KeptStep → Option InStep → Option Spot → Option Spot
+spot_in x xs (Some i) other =
+    Some (record { front = []; here = x; before = i.before; sense = i.sense; later = i.later; rest = xs })
+spot_in x xs None other = step_in_front x other
+
+-- the place of the first sense of this number among all kept steps; None where there is none
+abbrev pub find : Num → List KeptStep → Option Spot
+find n [] = None
+find n (x ∷ xs) = spot_in x xs (find_sense n x.senses) (find n xs)

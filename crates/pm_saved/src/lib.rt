@@ -1,0 +1,11 @@
+//! The steps that an agent may still have to take back: what each sensed, how it ended, and what a rollback or a commit
+//! makes of them.
+#![tactic(auto)]
+
+mod kept;
+mod laws;
+
+pub use kept::{KeptAct, KeptHit, KeptSense, KeptStep};
+pub use laws::{
+    a_line_divides_the_steps, places_have_their_number, steps_are_withdrawn_one_by_one,
+};
