@@ -64,7 +64,7 @@ def steps(file, name="the trace"):
 
 def opened(path, tool):
     """The file of that name, or standard input where there is none."""
-    if path is None:
+    if path in (None, "-"):
         if sys.stdin.isatty():
             print(f"{tool}: reading the trace from standard input (--help says more)", file=sys.stderr)
         sys.stdin.reconfigure(encoding="ascii", errors="replace", newline="\n")
