@@ -2,8 +2,8 @@
 use Rattle.std.specs.Prelude.{ℕ, zero, suc, ◌==◌, Bool, true, false, not, ◌&&◌, ◌||◌, if◌then◌else◌}
 use Rattle.std.specs.Prelude.{List, [], ◌∷◌, ◌++◌, map, filter, get_or, set, Option, Some, None, pos}
 use Rattle.pm_base.specs.Layouts.{class_of, class_row}
-use Rattle.pm_base.specs.Stamps.{is_below}
-use Rattle.pm_base.specs.Windows.{meets, point_of, whole}
+use Rattle.pm_base.specs.Stamps.{is_below, num_eq}
+use Rattle.pm_base.specs.Windows.{point_of, whole}
 use Rattle.pm_base.specs.declared.layout.ClassRow.{ClassRow}
 use Rattle.pm_base.specs.declared.rows.CutRow.{CutRow}
 use Rattle.pm_base.specs.declared.rows.GiveRow.{GiveRow}
@@ -26,13 +26,13 @@ use Rattle.pm_periods.specs.Periods.{periods_from}
 use Rattle.pm_periods.specs.Records.{after_cut, after_put, after_watch, cut_row, first_read, gives_of_cut, gives_of_put}
 use Rattle.pm_periods.specs.Records.{gives_of_watch, settled}
 use Rattle.pm_periods.specs.Records as records
-use Rattle.pm_periods.specs.Rows.{key_lt, num_eq}
+use Rattle.pm_periods.specs.Rows.{key_lt}
 use Rattle.pm_periods.specs.declared.rows.RowKey.{RowKey}
-use Rattle.pm_ranges.specs.Known.{Known, bound_at, covers, grown, nothing_known}
-use Rattle.pm_ranges.specs.Known as known
+use Rattle.pm_ranges.specs.Known.{Known, covers}
 use Rattle.pm_routes.specs.Routings.{Routing, arrived, counted, first_routing, is_drawn, left, place_of}
 use Rattle.pm_routes.specs.declared.way.Way.{Way}
 use Rattle.pm_routes.specs.declared.way.Way.TheVariants as way
+use Rattle.pm_tables.specs.Tables.{bounds_trim, first_bound, first_told, grow_at, grow_periods, known_at, may_hold}
 use Rattle.pm_clp.specs.declared.sent.Registered.{Registered}
 use Rattle.pm_clp.specs.declared.sent.Sent.{Sent}
 
@@ -78,29 +78,6 @@ way_of v s = get_or s.routing.ways v way.Here
 abbrev pub has : ℕ → List ℕ → Bool
 has d [] = false
 has d (x ∷ xs) = d == x || has d xs
-
--- what is known of a class at a port
-abbrev pub known_at : List ℕ → ℕ → ℕ → List (List Known) → Known
-known_at ports d k b = get_or (get_or b (place_of ports d) []) k nothing_known
-
--- the window joined to what is known of the class at the port, over the interval
-abbrev pub grow_at : List ℕ → ℕ → ℕ → Interval → Window → List (List Known) → List (List Known)
-grow_at ports d k when w b =
-    set b (place_of ports d) (set (get_or b (place_of ports d) []) k (grown when w (known_at ports d k b)))
-
--- the values of these periods joined to it, each over its period
-abbrev pub grow_periods : List ℕ → ℕ → ℕ → List Period → List (List Known) → List (List Known)
-grow_periods ports d k [] b = b
-grow_periods ports d k (r ∷ rs) b = grow_periods ports d k rs (grow_at ports d k r.when (point_of r.value) b)
-
--- there is a bound, and it meets the window
-abbrev pub meets_at : Window → Option Window → Bool
-meets_at w None = false
-meets_at w (Some x) = meets x w
-
--- a value in the window may stand behind the port at that stamp: the bound there meets it
-abbrev pub may_hold : List ℕ → List (List Known) → ℕ → ℕ → Stamp → Window → Bool
-may_hold ports b d k s w = meets_at w (bound_at (known_at ports d k b) s)
 
 -- where a registered query stands: by its stamp, then by its number
 abbrev pub registered_key : Registered → RowKey
@@ -374,10 +351,6 @@ abbrev pub option_trim : Line → Option Parts → Option Parts
 option_trim l None = None
 option_trim l (Some r) = Some (records.trimmed l r)
 
--- the bounds keep what is not below the line
-abbrev pub bounds_trim : Line → List (List Known) → List (List Known)
-bounds_trim l b = map (map (known.trimmed l)) b
-
 -- the process after a Commit: the line is this one, and what is below it is forgotten
 abbrev pub clp_committed : Line → ClpState → ClpState
 clp_committed l s = record {
@@ -388,10 +361,6 @@ clp_committed l s = record {
   bound = bounds_trim l s.bound;
   told = bounds_trim l s.told;
 }
-
--- the value of a variable that is none
-abbrev pub no_value : Value
-no_value = record { x = pos 0; y = pos 0 }
 
 -- a record that has received nothing
 abbrev pub first_parts : Value → Parts
@@ -407,34 +376,6 @@ abbrev pub first_records : List Way → List Value → List (Option Parts)
 first_records [] vs = []
 first_records (y ∷ ys) [] = []
 first_records (y ∷ ys) (v ∷ vs) = first_record y v ∷ first_records ys vs
-
--- the way is that port
-abbrev pub is_towards : ℕ → Way → Bool
-is_towards d way.Here = false
-is_towards d (way.Port e) = d == e
-
--- at all stamps
-abbrev pub always : Interval
-always = record { from = None; until = None }
-
--- grown by the first values of the variables, m from i on, whose way passes the test
-abbrev pub grown_first : (Way → Bool) → List Way → List Value → ℕ → ℕ → Known → Known
-grown_first test ways values i zero b = b
-grown_first test ways values i (suc m) b =
-    grown_first test ways values (suc i) m
-    (if test (get_or ways i way.Here) then grown always (point_of (get_or values i no_value)) b else b)
-
--- what is known at first of one class
-abbrev pub first_row : (Way → Bool) → List Way → List Value → ClassRow → Known
-first_row test ways values k = grown_first test ways values k.first k.count nothing_known
-
--- behind each port at first: the variables whose way it is
-abbrev pub first_bound : List ClassRow → List Way → List Value → List ℕ → List (List Known)
-first_bound classes ways values ports = map (λ d. map (first_row (is_towards d) ways values) classes) ports
-
--- on this side of each port at first: all others
-abbrev pub first_told : List ClassRow → List Way → List Value → List ℕ → List (List Known)
-first_told classes ways values ports = map (λ d. map (first_row (λ y. not (is_towards d y)) ways values) classes) ports
 
 -- the first state, from the ways and the first values of the variables
 abbrev pub first_clp : Hub → List Way → List Value → ℕ → ClpState
