@@ -1,16 +1,16 @@
 -- A CLP's part of a delivery.
 use Rattle.pm_base.specs.Stamps.{num_eq}
-use Rattle.pm_sim.proofs.Forwards.{process_toward, map_twice, letters_posted, fwd, fwd_is, fw, fw_ask, fw_end, out_is, fw_is, asks_tally, fw_tally, filter_tally}
+use Rattle.pm_sim.proofs.Forwards.{process_toward, map_twice, letters_posted, fwd, fwd_is, fw, fw_ask, fw_end, out_is, fw_is, fw_tally, filter_tally}
 use Rattle.pm_clp.specs.declared.sent.Sent.{Sent}
 use Rattle.pm_clp.specs.declared.sent.Registered.{Registered}
 use Rattle.pm_sim.proofs.Acts.{Quiet, acts, acts_then, quiet_act, quiet_tell, quiet_telling, class_low}
 use Rattle.pm_sim.proofs.Catches.{catch_act, late_sends, late_is}
-use Rattle.pm_clp.specs.Clps.{Hub, grow_bound, catching, tell, without, Answered, ClpState, has_reg, ask_of, rec_at, take_put, take_cut, take_watch, add_reg, way_of, to_agent, on_record, at_record, on_way, watch_all, forwards, registered, finish_if, finish_in, telling, sent_on, has, ClpSends, no_clp_sends, and_then, after_finish, clp_after, counting}
+use Rattle.pm_clp.specs.Clps.{Hub, grow_bound, catching, tell, without, Answered, ClpState, has_reg, rec_at, take_put, take_cut, take_watch, add_reg, way_of, to_agent, on_record, at_record, on_way, watch_all, forwards, registered, finish_if, finish_in, telling, sent_on, has, ClpSends, no_clp_sends, and_then, after_finish, clp_after, counting}
 use Rattle.std.specs.Prelude.{Option, not}
-use Rattle.pm_sim.proofs.Places.{plain_queries, plain_hopes, in_range, hub_idle, hub_then, lift_then, clp_at, queries_at, Sim, HubSends, set_rec, set_here, set_there, places_same, landed, bag, mail_in, letter_in, clp_here, clp_there, pend_of, wait_of, build, forwarded, toward_fits, mailed, record_taken, lift, process_clp, process_agent, to_agent_of}
+use Rattle.pm_sim.proofs.Places.{plain_queries, plain_hopes, in_range, hub_idle, hub_then, lift_then, clp_at, queries_at, Sim, HubSends, set_rec, set_here, set_there, places_same, landed, bag, mail_in, letter_in, clp_here, clp_there, pend_of, wait_of, build, forwarded, toward_fits, mailed, record_taken, lift, process_clp, to_agent_of}
 use Rattle.pm_sim.proofs.Queries.{add_reg_has, special, mail_same, ask_parts, clp_parts, toward_home, goes_plain, queries_plain, ask_goes, queries_ask}
-use Rattle.std.proofs.lemmas.Bool.{or_right, cases_Bool, cond_both, cases_eq}
-use Rattle.std.proofs.Common.{◌≡◌, ℕ, ◌+◌, ◌<◌, ◌≤◌, ◌⊎◌, inl, inr, ◌==◌, Bool, true, false, cond, ◌&&◌, List, [], ◌∷◌, ◌++◌, map, filter, length, set, refl, arith, ap, sym, ◌∙◌, subst, Some, None, get_or-set_same, ap₂}
+use Rattle.std.proofs.lemmas.Bool.{or_right, cases_Bool, cases_eq}
+use Rattle.std.proofs.Common.{◌≡◌, ℕ, ◌+◌, ◌<◌, ◌≤◌, inl, inr, ◌==◌, true, false, cond, List, [], ◌∷◌, ◌++◌, map, filter, length, set, refl, arith, ap, sym, ◌∙◌, subst, Some, None, get_or-set_same}
 use Rattle.std.proofs.lemmas.Bool.Decides.{nat_tests}
 use Rattle.std.proofs.lemmas.List.{map-append}
 use Rattle.pm_base.specs.declared.rows.CutRow.{CutRow}
@@ -27,20 +27,19 @@ use Rattle.pm_plan.specs.declared.plan.Plan.{Plan}
 use Rattle.pm_sim.specs.Worlds.{Mail, Posted, Process, Taken, World, home, mail, take_from, clps_of, ports, number, process, posted, hub_of}
 use Rattle.pm_sim.specs.Worlds.Process.{AtClp, AtAgent}
 use Rattle.pm_sim.specs.Sims.{Core, In, MailOk, NotPast, class_at, cut_msg, has_read, one_if, put_msg, tally, vars_of}
-use Rattle.pm_sim.specs.Routings.{Begun, FitsAt, Goes, PlacesOk, QueriesOk, ask_to, mail_to, stands_at, toward, unmoved, ForClp, TreeOk}
+use Rattle.pm_sim.specs.Routings.{Begun, FitsAt, Goes, PlacesOk, QueriesOk, ask_to, mail_to, stands_at, toward, unmoved, ForClp}
 use Rattle.pm_sim.proofs.Arrivals.{Mailed}
 use Rattle.pm_sim.proofs.Ends.{OneEnd, shorter, FinishIs, finish_is, finish_idle, idle_goes', finish_goes, finish_waited}
 use Rattle.pm_sim.proofs.Going.{tally_append}
-use Rattle.pm_sim.proofs.Letters.{message_of, letters, Bag, sent_mail, in_map, map_in, bag_map, bag_split}
+use Rattle.pm_sim.proofs.Letters.{message_of, letters, Bag, sent_mail, in_map, bag_map, bag_split}
 use Rattle.pm_sim.proofs.Lists.{in_left, in_right, in_cases}
 use Rattle.pm_sim.proofs.Quiets.{tally_in}
 use Rattle.pm_sim.proofs.Routed.{neutral, Hopes, core_neutral}
 use Rattle.pm_sim.proofs.Stamps.{num_eq_self}
 use Rattle.pm_sim.proofs.Takes.{unchanged_answer, core_put, core_cut, core_ask, core_known}
 use Rattle.pm_sim.proofs.Trims.{in_filter}
-use Rattle.pm_sim.proofs.Watches.{sent_letters, Watched, watch_fold, places_watched}
+use Rattle.pm_sim.proofs.Watches.{Watched, watch_fold, places_watched}
 use Rattle.pm_routes.specs.Routings.{Routing}
-use Rattle.pm_base.specs.declared.stamp.Line.{Line}
 use Rattle.pm_base.specs.Layouts.{class_row}
 use Rattle.pm_base.specs.declared.value.Query.TheVariants as query
 use Rattle.pm_message.specs.declared.Message.TheVariants as message

@@ -1,6 +1,6 @@
 -- What is known at tree ports of one class, and that it holds the values that stand behind them.
 use Rattle.pm_tables.specs.Tables.{known_at, no_value}
-use Rattle.std.specs.Prelude.{ℕ, ◌<◌, ◌≡◌, ◌==◌, Bool, true, ◌&&◌, if◌then◌else◌, List, [], ◌∷◌, ◌++◌, length, get_or, Some}
+use Rattle.std.specs.Prelude.{ℕ, ◌<◌, ◌≡◌, ◌==◌, Bool, true, ◌&&◌, if◌then◌else◌, List, [], ◌∷◌, ◌++◌, length, Some}
 use Rattle.std.specs.List.{flat_map}
 use Rattle.pm_base.specs.Windows.{inside, point_of}
 use Rattle.pm_base.specs.declared.rows.Parts.{Parts}
