@@ -73,7 +73,8 @@ module _ (p : Plan) (c : ℕ) (from : Process) (r : Registered) where
   out_is (y ∷ ys) x i = (let one : ℕ → Posted =
       λ e. record { to = AtClp e; message = ask_of r } in let o = in_map one (y ∷ ys) x i in inl (o.0, o.1, o.2))
 
-  pub fw_is : (ds : List ℕ) (y : Mail) → In y (fw ds) → ((d : ℕ) × In d ds × (y ≡ mail_to (AtClp d) (AtClp c) (ask_of r)))
+  pub fw_is : (ds : List ℕ) (y : Mail) → In y (fw ds)
+      → ((d : ℕ) × In d ds × (y ≡ mail_to (AtClp d) (AtClp c) (ask_of r)))
       ⊎ (y ≡ mail_to from (AtClp c) (message.Finish r.num r.stamp))
   fw_is ds y i =
       (let o = in_map (λ (x : Posted). mail_to x.to (AtClp c) x.message) (fwd ds) y i in elim (out_is ds o.0 o.1) [

@@ -7,12 +7,12 @@ use Rattle.pm_base.specs.declared.run.Event.{Event}
 use Rattle.pm_plan.specs.declared.plan.Plan.{Plan}
 use Rattle.pm_plan.specs.declared.plan.VarRow.{VarRow}
 use Rattle.pm_plan.specs.Plans.{IsValid}
-use Rattle.pm_sim.specs.Promises.{AllIsCommitted, CommittedIsSequential, CommittedStays}
+use Rattle.pm_sim.specs.Promises.{AllIsCommitted, CommittedIsSequential, CommittedStays, EndIsLegal}
 use Rattle.pm_sim.specs.Worlds.{first_world}
 use Rattle.pm_sim.proofs.Firsts.{PlanFits}
 use Rattle.pm_sim.proofs.Rules.{rules_ok}
 use Rattle.pm_sim.proofs.Shapes.{place_in, plan_shape, timely, tree_ok}
-use Rattle.pm_sim.proofs.Wholes.{all_committed, prefix, simulation}
+use Rattle.pm_sim.proofs.Wholes.{all_committed, end_legal, prefix, simulation}
 
 pair_at : (rows : List VarRow) (v : ℕ) → AllByRecursion (λ (r : VarRow). IsPair r.value) rows
     → v < length (map (λ (r : VarRow). r.value) rows) → IsPair (get_or (map (λ (r : VarRow). r.value) rows) v no_value)
@@ -37,3 +37,6 @@ committed-stays p es fs = prefix p (first_world p) es fs
 
 pub all-committed : (p : Plan) (es : List Event) → IsValid p → AllIsCommitted p es
 all-committed p es h = all_committed p (plan_fits p h) (timely p h) es
+
+pub end-legal : (p : Plan) (es : List Event) → EndIsLegal p es
+end-legal p es = end_legal p (first_world p) es

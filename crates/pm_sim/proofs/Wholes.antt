@@ -206,3 +206,17 @@ all_committed p fit timely es l none =
     all_kept : (xs : List Entry) → filter (λ e. true) xs ≡ xs
     all_kept [] = refl
     all_kept (x ∷ xs) = ap (λ z. x ∷ z) (all_kept xs)
+
+legal_append : (p : Plan) (w : World) (es fs : List Event) → is_legal_run p w es ≡ true
+    → is_legal_run p (after_events p w es) fs ≡ true → is_legal_run p w (es ++ fs) ≡ true
+legal_append p w [] fs l m = m
+legal_append p w (e ∷ es) fs l m =
+    let parts = and_parts (is_legal p w e) (is_legal_run p (after_event p w e) es) l in
+    rw parts.0 (legal_append p (after_event p w e) es fs parts.1 m)
+
+-- and a Commit at the end may stand there
+pub end_legal : (p : Plan) (w : World) (es : List Event) → is_legal_run p w es ≡ true
+    → mail (after_events p w es).links ≡ [] → is_legal_run p w (es ++ event.Commit line.End ∷ []) ≡ true
+end_legal p w es l none =
+    let may : may_commit (after_events p w es) line.End ≡ true = rw none refl in
+    legal_append p w es (event.Commit line.End ∷ []) l (rw may refl)

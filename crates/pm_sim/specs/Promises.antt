@@ -26,3 +26,10 @@ AllIsCommitted p es =
     is_legal_run p (first_world p) es ≡ true →
     mail (after_events p (first_world p) es).links ≡ [] →
     committed p (es ++ event.Commit line.End ∷ []) ≡ sequential_run p
+
+-- and that Commit may stand there
+abbrev pub EndIsLegal : Plan → List Event → Type 0
+EndIsLegal p es =
+    is_legal_run p (first_world p) es ≡ true →
+    mail (after_events p (first_world p) es).links ≡ [] →
+    is_legal_run p (first_world p) (es ++ event.Commit line.End ∷ []) ≡ true
