@@ -100,6 +100,7 @@ pub record Action (p : Plan) (l : Line)
       × (a.seq ≤ (num_of x).seq) × ((num_of x).seq < b.seq) × ((num_of x).agent ≡ (stamp_of x).agent)
   pub fresh_one : (x y : Message) → In x fresh → In y fresh → num_of x ≡ num_of y → x ≡ y
   pub wides : (n : Num) (s : Stamp) (v : ℕ) (c : Change) → In (message.Put n s v c) fresh → IsWide c
+  pub fresh_time : (x : Message) → In x fresh → (stamp_of x).time ≤ p.horizon
   pub sent_ok : (x : Message) → In x sent → MailOk p (issued ++ fresh) x × NotPast l (stamp_of x)
   pub no_gives : (g : GiveRow) → In (message.Give g) sent → ⊥
   pub puts_fresh : (v : ℕ) (r : PutRow) → In (put_msg v r) sent → In (put_msg v r) fresh
@@ -370,6 +371,7 @@ module _ (p : Plan) (l : Line)
     ];
     agent = agents_ok;
     own = λ x k. elim (in_cases issued fresh x k) [ inl j ↦ core.own x j | inr j ↦ (act.fresh_num x j).3 ];
+    times = λ x k. elim (in_cases issued fresh x k) [ inl j ↦ core.times x j | inr j ↦ act.fresh_time x j ];
     fresh = fresh_ok;
     unique = unique_ok;
     mail = λ x k. elim (mailed.from x k) [

@@ -234,6 +234,7 @@ module _ (p : Plan) (l : Line)
     pairs = core.pairs;
     wide = core.wide;
     own = core.own;
+    times = core.times;
     fresh = core.fresh;
     unique = core.unique;
     base = λ u lt. elim (cases_eq u v) [

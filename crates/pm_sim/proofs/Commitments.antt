@@ -258,6 +258,7 @@ module _ (p : Plan)
             wake = ok.wake;
           })));
       own = core.own;
+      times = core.times;
       fresh = λ m j. (let o = core.fresh m j in (
         omega (arith, o.0, length-map agents (agent_committed k)),
         subst (λ (a : Agent). (num_of m).seq < a.seq) (sym (same_agent (num_of m).agent o.0)) o.1,

@@ -1,4 +1,5 @@
 -- The whole fact holds in the first world.
+use Rattle.std.specs.Prelude.{nat_le}
 use Rattle.pm_tables.specs.Tables.{no_value}
 use Rattle.pm_alp.specs.declared.agent.Awaited.{Awaited}
 use Rattle.pm_alp.specs.declared.agent.Agent.{Agent}
@@ -6,7 +7,7 @@ use Rattle.pm_sim.specs.Routings.{stands_at, is_move, moves_var, Fits, NoTwiceRe
 use Rattle.pm_clp.specs.Clps.{ClpState, has_reg, rec_at, first_record, first_records, first_parts}
 use Rattle.pm_sim.proofs.Queries.{ask_is}
 use Rattle.std.proofs.lemmas.Bool.{cases_Bool, cases_eq}
-use Rattle.std.proofs.Common.{◌≡◌, ℕ, zero, suc, ◌+◌, ◌<◌, ◌≤◌, ◌⊎◌, inl, inr, ◌==◌, true, false, cond, List, [], ◌∷◌, ◌++◌, map, length, get_or, refl, arith, ap, sym, ◌∙◌, subst, subst₂, Option, Some, None}
+use Rattle.std.proofs.Common.{◌≡◌, ℕ, zero, suc, ◌+◌, ◌<◌, ◌≤◌, ◌⊎◌, inl, inr, ◌==◌, true, false, cond, List, [], ◌∷◌, ◌++◌, map, length, get_or, refl, arith, ap, sym, ◌∙◌, subst, subst₂, Option, Some, None, Bool}
 use Rattle.std.proofs.lemmas.Bool.Decides.{nat_tests}
 use Rattle.std.proofs.lemmas.List.{length-map, get_or-map}
 use Rattle.pm_model.specs.Runs.{first_agent, sequential_start}
@@ -54,7 +55,7 @@ pub record PlanFits (p : Plan) : Type 0 where
   pub pairs : (v : ℕ) → v < length (sequential_start p).values → IsPair (get_or (sequential_start p).values v no_value)
   pub rules : (i : ℕ) → i < length p.agents → PlanOk p (length (sequential_start p).values) i
 
-agents_len : (p : Plan) (i : ℕ) (xs : List AgentRow) → length (first_actors p i xs) ≡ length xs
+pub agents_len : (p : Plan) (i : ℕ) (xs : List AgentRow) → length (first_actors p i xs) ≡ length xs
 agents_len p i [] = refl
 agents_len p i (x ∷ xs) = ap suc (agents_len p (suc i) xs)
 
@@ -149,7 +150,7 @@ wakes_in j (Some u) w e =
     same : (x y : Awaited) → Some y ≡ Some x → x ≡ y
     same x y f = cc
 
-clps_len : (p : Plan) (c n : ℕ) → length (first_clps p c n) ≡ n
+pub clps_len : (p : Plan) (c n : ℕ) → length (first_clps p c n) ≡ n
 clps_len p c zero = refl
 clps_len p c (suc n) = ap suc (clps_len p (suc c) n)
 
@@ -238,6 +239,14 @@ module _ (p : Plan) (fit : PlanFits p) where
   some_nat : (x y : ℕ) → Some x ≡ Some y → x ≡ y
   some_nat x y e = cc
 
+  within_le : (h x t : ℕ) → within h x ≡ Some t → t ≤ h
+  within_le h x t e = go (nat_le x h) refl e
+    where
+      go : (b : Bool) → nat_le x h ≡ b → cond b (Some x) None ≡ Some t → t ≤ h
+      go true f g = (
+          let y : x ≡ t = some_nat x t g in let z : x ≤ h = grind (arith, nat_tests, f) in omega arith)
+      go false f g = absurd (cc)
+
   pub first_core : (pend : Num → ℕ → Type 0) (wait : Num → Type 0)
       → Core p zero_line (sequential_start p) issued agents recs issued pend wait
   first_core pend wait = record {
@@ -262,6 +271,8 @@ module _ (p : Plan) (fit : PlanFits p) where
               (own_mail z a.awaited)) (omega arith) (sym (agent_j i lt)) (wakes_in i _ w e))));
         }));
     own = λ m k. (let w = is_wake m k in ap (λ z. (num_of z).agent) w.4 ∙ sym (ap (λ z. (stamp_of z).agent) w.4));
+    times = λ m k. (let w = is_wake m k in subst (λ z. (stamp_of z).time ≤ p.horizon) (sym w.4)
+        (within_le p.horizon (get_or p.agents w.0 no_row).start w.1 (when_is w.0 w.1 w.3)));
     fresh = λ m k. (let w = is_wake m k in subst (λ z. ((num_of z).agent < length agents)
         × ((num_of z).seq < (get_or agents (num_of z).agent no_agent).seq)) (sym w.4) (
           w.2,

@@ -1,4 +1,5 @@
 -- An agent that goes on in its last step, after what was withdrawn.
+use Rattle.std.proofs.lemmas.Bool.Decides.{nat_tests}
 use Rattle.pm_base.specs.Stamps.{num_eq}
 use Rattle.pm_saved.specs.Steps.{withdrawn}
 use Rattle.pm_saved.specs.Senses.{answers}
@@ -117,6 +118,7 @@ module _ (p : Plan)
     pub asked : Asked prog s regs' [] done
     pub complete : Each (λ (x : KeptSense). x.complete ≡ true) done
     pub low : NotPast l s
+    pub time : t ≤ p.horizon
     pub issue : (x : KeptSense) → In x done → In (message.Ask x.num s x.query) issued
     pub front_new : (z : KeptStep)
         → In z front → (x : KeptSense) → In x z.senses → QueryOk p new recs pend' wait' n z.stamp x x.query
@@ -188,6 +190,7 @@ module _ (p : Plan)
       pub one : (x y : Message) → In x fresh → In y fresh → num_of x ≡ num_of y → x ≡ y
       pub low : (x : Message) → In x fresh → NotPast l (stamp_of x)
       pub wides : (k : Num) (z : Stamp) (v : ℕ) (c : Change) → In (message.Put k z v c) fresh → IsWide c
+      pub times : (x : Message) → In x fresh → (stamp_of x).time ≤ p.horizon
       pub kinds : (x : Message) → In x fresh → MailOk p (issued ++ fresh) x
       pub no_cut : (k : Num) → tally (is_cut k) fresh ≡ 0
       pub cut_not : (v : ℕ) (c : CutRow) → In (cut_msg v c) fresh → ⊥
@@ -209,6 +212,7 @@ module _ (p : Plan)
       fresh_num = f.nums;
       fresh_one = f.one;
       wides = f.wides;
+      fresh_time = f.times;
       sent_ok = λ x j. elim (in_cases (withdrawn gone) fresh x j) [
         | inl k ↦ (let r =
             withdrawn_in p issued p.horizon prog i last.gone_regs
@@ -366,6 +370,7 @@ module _ (p : Plan)
               × ((num_of z).agent ≡ (stamp_of z).agent)) (sym (only x j)) (refl, omega arith, omega arith, refl);
           one = λ x y j k _. only x j ∙ sym (only y k);
           low = λ x j. subst (NotPast l) (sym (ap stamp_of (only x j))) last.low;
+          times = λ x j. subst (λ (z : Stamp). z.time ≤ p.horizon) (sym (ap stamp_of (only x j))) last.time;
           wides = λ k z v c j.
               absurd (not_ask_put v (record { num = k; stamp = z; change = c }) (only (message.Put k z v c) j));
           kinds = λ x j. subst (MailOk p (issued ++ fresh)) (sym (only x j)) (in_right issued fresh _ here);
@@ -439,6 +444,7 @@ module _ (p : Plan)
           → aw ≡ Some w → (w ≡ record { num = new_num (a.seq + length d.writes); stamp = st (t + d.wait) i })
           × (seq ≡ a.seq + length d.writes + 1)
       pub enough : a.seq + length d.writes ≤ seq
+      pub time : (w : Awaited) → aw ≡ Some w → t + d.wait ≤ p.horizon
       pub waits : Waits i (within p.horizon (t + d.wait)) aw
 
     -- going on to the end of the step
@@ -492,6 +498,12 @@ module _ (p : Plan)
             | inl k ↦ subst (NotPast l) (sym (ap stamp_of (puts_in i s a.seq d.writes x k).3)) last.low
             | inr k ↦ subst (NotPast l)
                 (sym (ap stamp_of (is_wake x k).0)) (not_past_up l s (st (t + d.wait) i) (grind arith) last.low)
+          ];
+          times = λ x j. elim (cases x j) [
+            | inl k ↦ subst (λ (z : Stamp). z.time ≤ p.horizon)
+                (sym (ap stamp_of (puts_in i s a.seq d.writes x k).3)) last.time
+            | inr k ↦ subst (λ (z : Stamp). z.time ≤ p.horizon)
+                (sym (ap stamp_of (is_wake x k).0)) (let w = wake_is x k in wok.time w.0 w.1)
           ];
           wides = λ k z v c j. elim (cases (message.Put k z v c) j) [
             | inl g ↦ (let r = puts_in i s a.seq d.writes (message.Put k z v c) g in
@@ -640,6 +652,7 @@ module _ (p : Plan)
           }) same))
           (record {
             some = λ w g. (some_is when w g, refl);
+            time = λ w g. (let k = f in grind (arith, nat_tests, k));
             enough = omega arith;
             waits = subst (λ c. Waits i (cond c (Some (t + d.wait)) None) (Some when))
                 (sym f) (new_num (a.seq + length d.writes), refl, refl);
@@ -650,6 +663,7 @@ module _ (p : Plan)
           (at ∙ ap (λ (c : Bool). (act_sends i a.base front s done a.seq d c).agent) f')
           (record {
             some = λ w g. absurd (none_some w g);
+            time = λ w g. absurd (none_some w g);
             enough = omega arith;
             waits = subst (λ c. Waits i (cond c (Some (t + d.wait)) None) None) (sym f) refl;
           }))

@@ -53,13 +53,13 @@ get_past [] i d h = refl
 get_past (x ∷ xs) zero d h = absurd (omega arith)
 get_past (x ∷ xs) (suc i) d h = get_past xs i d (omega arith)
 
-trim_at : (k : Line) (rs : List (Option Parts)) (v : ℕ)
+pub trim_at : (k : Line) (rs : List (Option Parts)) (v : ℕ)
     → rec_at (map (option_trim k) rs) v ≡ option_trim k (rec_at rs v)
 trim_at k [] v = refl
 trim_at k (r ∷ rs) zero = refl
 trim_at k (r ∷ rs) (suc v) = trim_at k rs v
 
-trim_some : (k : Line) (o : Option Parts) (r : Parts)
+pub trim_some : (k : Line) (o : Option Parts) (r : Parts)
     → option_trim k o ≡ Some r → (r0 : Parts) × (o ≡ Some r0) × (r ≡ trimmed k r0)
 trim_some k None r e = absurd (cc)
 trim_some k (Some r0) r e = (r0, refl, some_same r (trimmed k r0) (sym e))

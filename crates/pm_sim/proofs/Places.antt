@@ -114,7 +114,7 @@ pub process_agent : (p : Plan) (a : ℕ) → process p (clps_of p + a) ≡ AtAge
 process_agent p a =
     (let e : nat_lt (clps_of p + a) (clps_of p) ≡ false = grind (arith, nat_tests) in rw e (ap AtAgent (omega arith)))
 
-towards_at : (p : Plan) (c i : ℕ) (rs : List AgentRow) (a : ℕ)
+pub towards_at : (p : Plan) (c i : ℕ) (rs : List AgentRow) (a : ℕ)
     → a < length rs → get_or (to_agents p c i rs) a 0 ≡ towards p c (i + a) (get_or rs a no_row).home
 towards_at p c i [] a lt = absurd (omega arith)
 towards_at p c i (r ∷ rs) zero lt = ap (λ z. towards p c z r.home) (omega arith)

@@ -354,7 +354,7 @@ inside_whole v h = tests_tell v whole (record {
     tests_tell v w i =
         (let a = i.left in let b = i.right in let c = i.low in let d = i.high in grind (arith, ints, a, b, c, d))
 
-whole_hit : (v : Value) → IsPair v → hit_in v whole ≡ Some v
+pub whole_hit : (v : Value) → IsPair v → hit_in v whole ≡ Some v
 whole_hit v h = ap (λ b. cond b (Some v) None) (inside_whole v h)
 
 -- where nothing below a line is on the way: a read that is missing below it would have no hit; and where the end of a

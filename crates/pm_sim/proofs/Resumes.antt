@@ -222,6 +222,7 @@ module _ (p : Plan)
         x x' spot.later x'_query (subst (Asked (rule_at p i) spot.here.stamp split.0 []) f.senses asked));
     complete = each_append (λ (z : KeptSense). z.complete ≡ true) spot.before (x' ∷ []) before (eb, tt);
     low = subst (NotPast l) es (ok.low spot.here here_in);
+    time = subst (λ (z : Stamp). z.time ≤ p.horizon) es (core.times _ ok_x.issue);
     issue = λ y j. elim (in_cases spot.before (x' ∷ []) y j) [
       | inl k ↦
           subst (λ z. In (message.Ask y.num z y.query) issued) es (ok.senses spot.here here_in y (before_in y k)).issue

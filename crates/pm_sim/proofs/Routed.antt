@@ -130,6 +130,7 @@ module _ (p : Plan) (l : Line) (q : State) (issued : List Message) (agents : Lis
       pairs = core.pairs;
       wide = core.wide;
       own = core.own;
+      times = core.times;
       fresh = core.fresh;
       unique = core.unique;
       mail = r.mail;

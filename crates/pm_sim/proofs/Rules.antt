@@ -144,7 +144,7 @@ module _ (layout : Layout) (lay : IsLayout layout) (k : Known) (kv : k.vars ≡ 
       body_fine cs a.1 s e (does s c d) (does_fine c a.0 s e d up)
 
 -- each sense names what exists
-sense_in : (classes : List ClassRow) (k : Known) (rows : List SenseRow) (i : ℕ) (row : SenseRow)
+pub sense_in : (classes : List ClassRow) (k : Known) (rows : List SenseRow) (i : ℕ) (row : SenseRow)
     → senses_fit classes k rows ≡ true
     → slice_get rows i ≡ Some row → (j : Known) × (j.vars ≡ k.vars) × (sense_known classes j row.sense ≡ true)
 sense_in classes k [] i row h e = absurd (cc)
@@ -166,7 +166,7 @@ query_in : (layout : Layout) (lay : IsLayout layout) (j : Known)
 query_in layout lay j e s cl (Read place) h = var_in layout lay j e s place cl h
 query_in layout lay j e s cl (Scan class x0 x1 y0 y1) h = tt
 
-found_asks : (program : Program) (s : Sight) (o : Option SenseRow) (q : Query)
+pub found_asks : (program : Program) (s : Sight) (o : Option SenseRow) (q : Query)
     → ask_or_act s program o ≡ outcome.Ask q → (row : SenseRow) × (o ≡ Some row) × (q ≡ query_of s row.sense)
 found_asks program s None q e = absurd (cc)
 found_asks program s (Some row) q e = (row, refl, same _ _ e)
@@ -182,7 +182,7 @@ found_acts program s None d e = same _ _ e
     same : (a b : Act) → outcome.Act a ≡ outcome.Act b → b ≡ a
     same a b e = cc
 
-asks_found : (program : Program) (s : Sight) (q : Query) → step program s ≡ outcome.Ask q
+pub asks_found : (program : Program) (s : Sight) (q : Query) → step program s ≡ outcome.Ask q
     → (row : SenseRow) × (slice_get program.senses (length s.answers) ≡ Some row) × (q ≡ query_of s row.sense)
 unfolding step
 asks_found program s q e = found_asks program s (slice_get program.senses (length s.answers)) q e
@@ -192,7 +192,7 @@ acts_found : (program : Program) (s : Sight) (d : Act)
 unfolding step
 acts_found program s d e = found_acts program s (slice_get program.senses (length s.answers)) d e
 
-all_fit : (layout : Layout) (rows : List AgentRow) (i : ℕ) → list_all (λ (r : AgentRow). fits r.program layout) rows
+pub all_fit : (layout : Layout) (rows : List AgentRow) (i : ℕ) → list_all (λ (r : AgentRow). fits r.program layout) rows
     ≡ true → i < length rows → fits (get_or rows i no_row).program layout ≡ true
 all_fit layout [] i h lt = absurd (omega arith)
 all_fit layout (r ∷ rows) zero h lt =

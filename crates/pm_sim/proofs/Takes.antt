@@ -38,7 +38,8 @@ one_more : (a : Bool) (n : ℕ) → one_if a n ≡ n + one_if a 0
 one_more true n = omega arith
 one_more false n = omega arith
 
-add_row_in : {X : Type 0} (key : X → RowKey) (r : X) (xs : List X) (x : X) → In x (add_row key r xs) → (x ≡ r) ⊎ In x xs
+pub add_row_in : {X : Type 0} (key : X → RowKey) (r : X) (xs : List X) (x : X)
+    → In x (add_row key r xs) → (x ≡ r) ⊎ In x xs
 add_row_in key r [] x i = i
 add_row_in key r (y ∷ ys) x i = (let again = add_row_in key r ys x in go (key_lt (key r) (key y)) again i)
   where

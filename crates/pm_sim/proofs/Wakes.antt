@@ -6,7 +6,7 @@ use Rattle.pm_saved.specs.declared.kept.KeptStep.{KeptStep}
 use Rattle.pm_saved.specs.declared.kept.KeptSense.{KeptSense}
 use Rattle.pm_alp.specs.declared.agent.Awaited.{Awaited}
 use Rattle.pm_alp.specs.declared.agent.Agent.{Agent}
-use Rattle.std.proofs.Common.{◌≡◌, ℕ, ◌+◌, ◌<◌, inl, inr, Bool, true, false, cond, List, [], ◌∷◌, ◌++◌, length, get_or, set, nat_le, refl, arith, ap, sym, ◌∙◌, subst, subst₂, Option, Some, None, ℤ, append-nil}
+use Rattle.std.proofs.Common.{◌≡◌, ℕ, ◌+◌, ◌<◌, inl, inr, Bool, true, false, cond, List, [], ◌∷◌, ◌++◌, length, get_or, set, nat_le, refl, arith, ap, sym, ◌∙◌, subst, subst₂, Option, Some, None, ℤ, append-nil, ◌≤◌}
 use Rattle.std.proofs.lemmas.Bool.{cases_Bool}
 use Rattle.pm_base.specs.declared.rows.GiveRow.{GiveRow}
 use Rattle.pm_base.specs.declared.rows.Parts.{Parts}
@@ -139,6 +139,7 @@ module _ (p : Plan)
         seq_up = omega arith;
         fresh_num = λ x j. absurd j;
         wides = λ n s v c j. absurd j;
+        fresh_time = λ x j. absurd j;
         fresh_one = λ x y j. absurd j;
         sent_ok = λ x j. absurd j;
         no_gives = λ g j. j;
@@ -250,6 +251,8 @@ module _ (p : Plan)
                 asked = tt;
                 complete = tt;
                 low = subst (NotPast l) at.2 (core.mail (message.Wake w.num w.stamp) (ok.wake w e)).1;
+                time = subst (λ (z : Stamp). z.time ≤ p.horizon) at.2
+                    (core.times (message.Wake w.num w.stamp) (core.mail (message.Wake w.num w.stamp) (ok.wake w e)).0);
                 issue = λ x j. absurd j;
                 front_new = λ z j x k. survive p
                     recs old new r.sent pend pend' wait wait' (message.Wake n0 s0) _ z.stamp x x.query mailed' no_gives

@@ -96,7 +96,7 @@ line_same p w to from = go (take_from to from w.links)
     go None = refl
     go (Some t) = by to t
 
-deliver_whole : (p : Plan) (w : World) (done : List Entry) (to from : Process)
+pub deliver_whole : (p : Plan) (w : World) (done : List Entry) (to from : Process)
     → Whole p w done → Whole p (deliver p w to from) done
 deliver_whole p w done to from h = record {
   q = h.q;
@@ -116,7 +116,7 @@ handed_is w k = ap in_order (go w.agents)
     go [] = refl
     go (x ∷ xs) = ap (λ z. hand_out k x.steps ++ z) (go xs)
 
-commit_whole : (p : Plan) (w : World) (done : List Entry) (k : Line)
+pub commit_whole : (p : Plan) (w : World) (done : List Entry) (k : Line)
     → Whole p w done → may_commit w k ≡ true → Whole p (commit w k) (done ++ handed w k)
 commit_whole p w done k h may =
     let parts = and_parts (line_le w.line k) (line_le k (least_line w)) may in

@@ -14,7 +14,7 @@ use Rattle.pm_sim.proofs.Lists.{in_left, in_right}
 pub process_not : (a b : Process) → (a ≡ b → ⊥) → is_process a b ≡ false
 process_not a b n = elim (cases_Bool (is_process a b)) [ inl e ↦ absurd (n (process_same a b e)) | inr e ↦ e ]
 
-same_link : (to from : Process) (l : Link) → is_link to from l ≡ true → (l.to ≡ to) × (l.from ≡ from)
+pub same_link : (to from : Process) (l : Link) → is_link to from l ≡ true → (l.to ≡ to) × (l.from ≡ from)
 same_link to from l h = (let p = and_parts (is_process l.to to) (is_process l.from from) h in
     (process_same l.to to p.0, process_same l.from from p.1))
 

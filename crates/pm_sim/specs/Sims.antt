@@ -368,6 +368,7 @@ pub record Core (p : Plan) (l : Line) (q : State) (issued : List Message) (agent
       p l issued letters recs pend wait (length q.values) i (get_or q.agents i no_turn) (get_or agents i no_agent)
   -- numbers
   pub own : (m : Message) → In m issued → (num_of m).agent ≡ (stamp_of m).agent
+  pub times : (m : Message) → In m issued → (stamp_of m).time ≤ p.horizon
   pub fresh : (m : Message) → In m issued
       → ((num_of m).agent < length agents) × ((num_of m).seq < (get_or agents (num_of m).agent no_agent).seq)
   pub unique : (m k : Message) → In m issued → In k issued → num_of m ≡ num_of k → m ≡ k
