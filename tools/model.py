@@ -1,8 +1,7 @@
 """Scenarios and their sequential run, read and made after docs/MODEL.md alone.
 
 A second, independent program: nothing here comes from the crates, so where both print the same, each is checked by the
-other. `tools/simulate` is its command; other tools read scenarios with it. It needs Python 3.11 (`tomllib`, which reads
-TOML 1.0: a scenario that uses what TOML 1.1 added is refused here as no TOML document).
+other. `tools/simulate` is its command; other tools read scenarios with it. It needs Python 3.11 (`tomllib`).
 """
 import re
 import tomllib
@@ -415,12 +414,57 @@ class Scenario:
                 raise Refusal(f"scenario: clp {number}: not in the tree", kind="clp", number=number, root=root)
 
 
+# Texts in quotes, comments, braces, commas before a closing brace, line feeds.
+TEXTS = re.compile(
+    r'"""(?:[^\\]|\\.)*?"{3,5}|"(?:[^"\\\n]|\\.)*"'
+    r"|'''.*?'{3,5}|'[^'\n]*'"
+    r"|#[^\n]*|[{}]|,(?=(?:\s|#[^\n]*\n)*\})|\n",
+    re.S,
+)
+
+
+def older(text):
+    """The text of a TOML 1.1 document as one of TOML 1.0, which is what Python reads: an inline table stands in one
+    line and has no comma at its end (the line feeds follow it, so that later lines keep their numbers), and the escapes
+    \\e and \\xHH are written out."""
+    made, last, depth, feeds = [], 0, 0, 0
+    for found in TEXTS.finditer(text):
+        piece = found.group()
+        made.append(text[last : found.start()])
+        last = found.end()
+        if piece[0] == '"':
+            piece = re.sub(r"\\(?:e|x([0-9A-Fa-f]{2})|.)", escaped, piece, flags=re.S)
+        elif piece in "{}":
+            depth = max(depth + (1 if piece == "{" else -1), 0)
+            if depth == 0:
+                piece, feeds = piece + "\n" * feeds, 0
+        elif depth and piece[0] in "#\n,":
+            feeds += piece == "\n"
+            piece = " "
+        made.append(piece)
+    return "".join(made) + text[last:]
+
+
+def escaped(found):
+    if found.group() == "\\e":
+        return "\\u001b"
+    return f"\\u00{found.group(1)}" if found.group(1) else found.group()
+
+
+def document_of(text):
+    """The document of a TOML text, 1.0 or 1.1."""
+    try:
+        return tomllib.loads(text)
+    except tomllib.TOMLDecodeError:
+        return tomllib.loads(older(text))
+
+
 def read(data):
     """The scenario of these bytes; a Refusal says why there is none."""
     if len(data) > LONGEST:
         raise Refusal("the scenario is longer than 4194304 bytes")
     try:
-        document = tomllib.loads(data.decode("utf-8"))
+        document = document_of(data.decode("utf-8"))
     except (UnicodeDecodeError, tomllib.TOMLDecodeError, RecursionError) as error:
         raise Refusal("scenario: not a TOML document", toml=error) from None
     if not all(map(is_held, numbers_in(document))):
