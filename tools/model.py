@@ -427,10 +427,11 @@ def older(text):
     """The text of a TOML 1.1 document as one of TOML 1.0, which is what Python reads: an inline table stands in one
     line and has no comma at its end (the line feeds follow it, so that later lines keep their numbers), and the escapes
     \\e and \\xHH are written out."""
-    made, last, depth, feeds = [], 0, 0, 0
+    made, last, depth, feeds, end = [], 0, 0, 0, " "
     for found in TEXTS.finditer(text):
         piece = found.group()
         made.append(text[last : found.start()])
+        end = made[-1].rstrip()[-1:] or end
         last = found.end()
         if piece[0] == '"':
             piece = re.sub(r"\\(?:e|x([0-9A-Fa-f]{2})|.)", escaped, piece, flags=re.S)
@@ -438,11 +439,17 @@ def older(text):
             depth = max(depth + (1 if piece == "{" else -1), 0)
             if depth == 0:
                 piece, feeds = piece + "\n" * feeds, 0
-        elif depth and piece[0] in "#\n,":
+        elif depth and piece[0] in "#\n," and may_break(end, piece, text[last:]):
             feeds += piece == "\n"
             piece = " "
         made.append(piece)
+        end = piece.rstrip()[-1:] or end
     return "".join(made) + text[last:]
+
+
+def may_break(end, piece, after):
+    """Whether a new line may begin here in an inline table: beside a brace or a comma. (A comma: at the end alone.)"""
+    return piece == "," or end in "{," or re.match(r"(?:\s|#[^\n]*\n)*[,}]", after) is not None
 
 
 def escaped(found):
