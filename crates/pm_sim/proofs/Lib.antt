@@ -82,3 +82,4 @@ pub mod Receipts
 pub mod RuleClasses
 pub mod Limits
 pub mod Kernel
+pub mod KernelRows

@@ -64,7 +64,7 @@ module _ (p : Plan) (t : Tables) (actors : ℕ → Actor) where
 
 -- with the tables as they are, these are the plan's runs
 module _ (p : Plan) where
-  event_right : (w : World) (e : Event) → after_event p w e ≡ event_by p right (actor_of p) w e
+  pub event_right : (w : World) (e : Event) → after_event p w e ≡ event_by p right (actor_of p) w e
   event_right w (event.Commit l) = refl
   event_right w (event.Deliver to from) =
       of_taken (process p to) (take_from (process p to) (process p from) w.links)

@@ -4,6 +4,7 @@ use Rattle.pm_base.specs.declared.rows.Entry.{Entry}
 use Rattle.pm_base.specs.declared.run.Event.{Event}
 use Rattle.pm_plan.specs.declared.plan.Plan.{Plan}
 use Rattle.pm_model.specs.Entries.{run_below}
+use Rattle.pm_sim.specs.Samples.{all_then_commit}
 use Rattle.pm_sim.specs.Worlds.{World, after_event, after_events, committed_from, first_world, hands, is_legal, is_legal_run}
 
 -- what a list of events came to: the world, what its Commits handed out, and how many events were done where one wasn't
@@ -45,3 +46,7 @@ PlayLaw p w es r = PlayedUpTo p w 0 es r
 -- what is played from the first world hands out the sequential run below the line, whatever the events are
 abbrev pub PlayedIsSequential : Plan → List Event → Type 0
 PlayedIsSequential p es = (play p (first_world p) es).entries ≡ run_below p (play p (first_world p) es).world.line
+
+-- the late write with a third event over a link that isn't there
+abbrev pub broken_run : List Event
+broken_run = all_then_commit ((2, 2) ∷ (0, 2) ∷ (2, 1) ∷ (1, 1) ∷ (0, 1) ∷ (2, 0) ∷ [])

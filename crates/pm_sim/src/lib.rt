@@ -4,6 +4,7 @@
 
 mod journal_laws;
 mod kernel_laws;
+mod kernel_rows;
 mod theorem;
 mod worked;
 
@@ -15,6 +16,7 @@ pub use kernel_laws::{
     deliveries_add, idle_is_done, links_stay, messages_are_taken, nothing_below_is_kept,
     numbers_stay_low, some_message_is_ready, who_waits_is_woken, windows_are_ok,
 };
+pub use kernel_rows::{a_late_write_is_kept_until_its_commit, playing_a_late_write};
 pub use theorem::{prefix, simulation, whole};
 pub use worked::{
     a_late_write, a_moving_query, a_pruned_window, a_withdrawn_write, an_early_query,
