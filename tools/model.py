@@ -3,6 +3,7 @@
 A second, independent program: nothing here comes from the crates, so where both print the same, each is checked by the
 other. `tools/simulate` is its command; other tools read scenarios with it. It needs Python 3.11 (`tomllib`).
 """
+import heapq
 import re
 import tomllib
 
@@ -512,8 +513,6 @@ class Run:
         self.registers = [list(rule.first) for rule in scenario.rules]
 
     def steps(self):
-        import heapq
-
         agents = self.scenario.parts["agent"]
         times = [(it.get("start", 0), number) for number, it in enumerate(agents)]
         times = [it for it in times if it[0] <= self.scenario.horizon]
