@@ -1,0 +1,6 @@
+pub mod Turns
+pub mod Shares
+pub mod Epochs
+pub mod Posts
+pub mod Seats
+pub mod Prefixes
