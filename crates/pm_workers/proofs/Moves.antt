@@ -1,9 +1,8 @@
 -- How one step moves a list of stations.
-use Rattle.std.proofs.Common.{◌≡◌, ℕ, zero, suc, ◌+◌, ◌<◌, ◌≤◌, ◌≢◌, ◌⊎◌, Bool, true, false, List, [], ◌∷◌, length, get_or, set, min, sym, refl, ap, ◌∙◌, subst, arith, length-set, get_or-set_same}
+use Rattle.std.proofs.Common.{◌≡◌, ℕ, zero, suc, ◌+◌, ◌<◌, ◌≢◌, List, [], ◌∷◌, length, get_or, set, sym, refl, ap, ◌∙◌, subst, arith, length-set, get_or-set_same}
 use mathlib.Core.Logic.{dite}
 use native.Mathlib.Decide.{ℕ_discrete}
-use Rattle.pm_workers.specs.Shares.{turns_at}
-use Rattle.pm_workers.specs.Epochs.{Moved, AtEach, Reached}
+use Rattle.pm_workers.specs.Epochs.{Reached}
 
 module _ {S : Type 0} (R : ℕ → S → S → Type 0) where
   set_apart : (ys : List S) (k i : ℕ) (y d : S) → i ≢ k → get_or (set ys k y) i d ≡ get_or ys i d
@@ -23,7 +22,7 @@ module _ {S : Type 0} (R : ℕ → S → S → Type 0) where
       → Reached R (k + 1) xs (set ys k y)
   steps k xs ys y e so within moves =
       let moves' : (d : S) → R k (get_or ys k d) y =
-          λ d. subst (λ (z : S). R k z y) (any_else ys k e d within) moves in (
+      λ d. subst (λ (z : S). R k z y) (any_else ys k e d within) moves in (
         length-set ys k y ∙ so.0,
         λ i d h. (
           λ lt. dite (ℕ_discrete i k)

@@ -1,6 +1,6 @@
 -- What the shares of a quota add up to.
-use Rattle.std.proofs.Common.{◌≡◌, ℕ, zero, suc, ◌+◌, ◌-◌, ◌*◌, ◌/◌, ◌%◌, ◌^◌, ◌<◌, ◌≤◌, Bool, true, false, List, [], ◌∷◌, length, get_or, min, nat_lt, sym, refl, ap, ◌∙◌, subst, arith, div-add-mod', suc-mul}
-use Rattle.std.specs.Prelude.{if◌then◌else◌, sum_by}
+use Rattle.std.proofs.Common.{◌≡◌, ℕ, zero, suc, ◌+◌, ◌-◌, ◌*◌, ◌/◌, ◌%◌, ◌^◌, ◌<◌, ◌≤◌, List, [], ◌∷◌, length, get_or, min, nat_lt, sym, refl, ap, subst, arith, div-add-mod', suc-mul}
+use Rattle.std.specs.Prelude.{if◌then◌else◌}
 use Rattle.std.proofs.lemmas.List.Recursion.{is_sum_by}
 use Rattle.pm_workers.specs.Shares.{share}
 use Rattle.pm_workers.specs.Epochs.{Moved, AtEach, told_by}

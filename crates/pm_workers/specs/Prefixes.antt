@@ -1,5 +1,5 @@
 -- Lists that go on.
-use Rattle.std.specs.Prelude.{◌≡◌, List, [], ◌++◌}
+use Rattle.std.specs.Prelude.{List, [], ◌++◌}
 use Rattle.std.proofs.Common.{append-nil, append_assoc, ◌∙◌, ap, sym}
 use mathlib.Core.List.{IsPrefix}
 

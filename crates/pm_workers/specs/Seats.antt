@@ -1,5 +1,5 @@
 -- The seats of the workers.
-use Rattle.std.specs.Prelude.{◌≡◌, ℕ, List, []}
+use Rattle.std.specs.Prelude.{◌≡◌, []}
 use Rattle.pm_turn.specs.declared.turns.Turns.{Turns}
 use Rattle.pm_turn.specs.declared.turns.TurnSeat.{TurnSeat}
 use Rattle.pm_turn.specs.Seats.{IsSeatOf, held, shares}

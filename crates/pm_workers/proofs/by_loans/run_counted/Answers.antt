@@ -1,5 +1,4 @@
-use Rattle.std.proofs.Common.{rules, ◌≡◌, ◌+◌, ◌≤◌, arith}
-use Rattle.pm_workers.specs.Epochs.{told_by}
+use Rattle.std.proofs.Common.{rules}
 use Rattle.pm_workers.proofs.Totals.{moved_total, added}
 use Rattle.pm_workers.proofs.by_loans.run_counted.Goals as goal
 

@@ -1,4 +1,4 @@
-use Rattle.std.proofs.Common.{◌≡◌, ℕ, List, map, sym, subst, ap, ◌∙◌}
+use Rattle.std.proofs.Common.{◌≡◌, ℕ, List, map, sym, subst, ◌∙◌}
 use Rattle.pm_turn.specs.Rule.{AllFit}
 use Rattle.pm_turn.specs.Seats.{marks}
 use Rattle.pm_workers.specs.Shares.{share}

@@ -1,4 +1,4 @@
-use Rattle.std.proofs.Common.{rules, ◌≡◌, List, length, ◌++◌, ◌∷◌, [], sym, subst, ap, ◌∙◌, map}
+use Rattle.std.proofs.Common.{rules, ◌≡◌, List, length, ◌++◌, ◌∷◌, sym, subst, ap, ◌∙◌, map}
 use Rattle.std.specs.Vec.Iter.{into_iter_items}
 use Rattle.pm_workers.specs.Shares.{share}
 use Rattle.pm_workers.specs.declared.post.Post.{Post}

@@ -1,4 +1,4 @@
-use Rattle.std.proofs.Common.{◌≡◌, ◌≤◌}
+use Rattle.std.proofs.Common.{◌≡◌}
 use Rattle.pm_workers.specs.Epochs.{Reached, told_by}
 use Rattle.pm_workers.proofs.last.last_turns.Given as goal
 

@@ -1,6 +1,6 @@
 use Rattle.std.proofs.Common.{◌+◌, ℕ, arith}
 use Rattle.pm_workers.specs.Shares.{share, turns_at}
-use Rattle.pm_workers.specs.Epochs.{Moved, AtEach}
+use Rattle.pm_workers.specs.Epochs.{Moved}
 use Rattle.pm_workers.proofs.Moves.{steps}
 use Rattle.pm_workers.proofs.rounds.go_round.Goals as goal
 

@@ -1,4 +1,3 @@
-use Rattle.std.proofs.Common.{◌∙◌}
 use Rattle.pm_workers.proofs.seats.turn_at.Goals as goal
 
 pub give-requires-clause-fits : goal.give-requires-clause-fits
