@@ -1,3 +1,5 @@
 mod Numbers
 mod Lines
 mod Texts
+pub mod Orders
+mod Rising

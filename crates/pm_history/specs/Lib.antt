@@ -1,2 +1,4 @@
 pub mod Journals
 pub mod Scans
+pub mod Stories
+pub mod Merged
