@@ -66,7 +66,8 @@ impl Station for Toy {
     ghost begins = { λ a b p. p };
 }
 
-// Stations that have so many deliveries each, and are numbered by that.
+// Stations that have so many deliveries each, and are numbered by that. They have room for what they hear, so that a
+// turn takes no memory.
 fn toys(alloc: Global, lefts: &[u64], fails: bool) -> Result<List<Toy>, Memory> {
     let mut toys = List::new(alloc);
     for left in lefts {
@@ -74,7 +75,7 @@ fn toys(alloc: Global, lefts: &[u64], fails: bool) -> Result<List<Toy>, Memory> 
             number: (*left % 1_000) as u32,
             left: *left,
             fails,
-            heard: List::new(alloc),
+            heard: List::from_vec(Vec::with_capacity(alloc, 64)?),
             spoilt: false,
         })?;
     }
