@@ -92,7 +92,7 @@ least_law p es h l =
     let r : Whole p w (committed p es) = whole_run p (first_world p) [] es (first_whole p (plan_fits p h)) l in
     record {
       may = may_least p r.q w r.full.recs r.full.sim;
-      end' = least_end (mail w.links);
+      at_end = least_end (mail w.links);
       stamp = least_stamp p r.q w r.full.recs r.full.sim;
     }
 

@@ -83,3 +83,4 @@ pub mod RuleClasses
 pub mod Limits
 pub mod Kernel
 pub mod KernelRows
+pub mod ReachedWorlds

@@ -13,7 +13,7 @@ use Rattle.pm_sim.specs.Worlds.{World, after_event, after_events, committed_from
 
 pub play_law : (p : Plan) (w : World) (i : ℕ) (es : List Event) → PlayedUpTo p w i es (play_from p w i es)
 play_law p w i [] =
-    record { done = []; rest = []; parts = refl; legal = refl; world = refl; entries = refl; end' = inl (refl, refl) }
+    record { done = []; rest = []; parts = refl; legal = refl; world = refl; entries = refl; stops = inl (refl, refl) }
 play_law p w i (e ∷ es) = (let again = play_law p (after_event p w e) (suc i) es in by (is_legal p w e) refl again)
   where
     r : Played
@@ -28,7 +28,7 @@ play_law p w i (e ∷ es) = (let again = play_law p (after_event p w e) (suc i) 
       legal = (let g = h.legal in rw (f, g) refl);
       world = h.world;
       entries = ap (λ z. hands w e ++ z) h.entries;
-      end' = elim h.end' [
+      stops = elim h.stops [
         | inl g ↦ inl g
         | inr g ↦ inr (g.0, g.1, g.2, g.3, g.4 ∙ ap Some (omega arith))
       ];
@@ -41,7 +41,7 @@ play_law p w i (e ∷ es) = (let again = play_law p (after_event p w e) (suc i) 
       legal = refl;
       world = refl;
       entries = refl;
-      end' = inr (e, es, refl, f, ap Some (omega arith));
+      stops = inr (e, es, refl, f, ap Some (omega arith));
     }
 
 legal_parts : (p : Plan) (w : World) (xs : List Event) (e : Event) (ys : List Event)
@@ -65,7 +65,7 @@ play_legal p w es l = go (play_law p w 0 es)
 
     go : PlayedUpTo p w 0 es (play p w es)
         → play p w es ≡ record { world = after_events p w es; entries = committed_from p w es; stopped = None }
-    go h = elim h.end' [
+    go h = elim h.stops [
       | inl g ↦ (let e : es ≡ h.done = h.parts ∙ (ap (λ z. h.done ++ z) g.1 ∙ nil h.done) in
           played (play p w es) (after_events p w es) (committed_from p w es)
           (h.world ∙ ap (after_events p w) (sym e)) (h.entries ∙ ap (committed_from p w) (sym e)) g.0)
@@ -81,7 +81,7 @@ pub play_none : (p : Plan) (w : World) (es : List Event) → (play p w es).stopp
 play_none p w es n = go (play_law p w 0 es)
   where
     go : PlayedUpTo p w 0 es (play p w es) → is_legal_run p w es ≡ true
-    go h = elim h.end' [
+    go h = elim h.stops [
       | inl g ↦ (let e : es ≡ h.done =
           h.parts ∙ (ap (λ z. h.done ++ z) g.1 ∙ nil h.done) in ap (is_legal_run p w) e ∙ h.legal)
       | inr g ↦ absurd (let m : None ≡ Some (0 + length h.done) = sym n ∙ g.4 in cc)

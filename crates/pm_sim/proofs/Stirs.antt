@@ -85,7 +85,7 @@ chain_open issued h prog i regs next (x ∷ ss) o s (t, en, es, asked, inl (none
         sense = r.1;
         last = r.2;
         done = r.3;
-        open' = r.4;
+        is_open = r.4;
       },
       aw,
     )
@@ -102,7 +102,7 @@ chain_open issued h prog i regs next (x ∷ ss) o s (t, en, es, asked, inr (a, a
         sense = r.0.sense;
         last = r.0.last;
         done = r.0.done;
-        open' = r.0.open';
+        is_open = r.0.is_open;
       },
       r.1,
     )
@@ -177,7 +177,7 @@ module _ (p : Plan) (q : State) (w : World) (recs : ℕ → Parts) (sim : Sim p 
       a _ _ (get_or w.agents a no_agent).steps (get_or w.agents a no_agent).awaited s (ag a lt).chain i e in
       let j : In r.0.sense s.senses = subst (In r.0.sense) (sym r.0.last) (in_end r.0.senses r.0.sense) in
       let ok = (ag a lt).senses s i r.0.sense j in
-      let c = by r.0.sense r.0.sense.query refl r.0.open' ok.issue ok.query in
+      let c = by r.0.sense r.0.sense.query refl r.0.is_open ok.issue ok.query in
       record { step = r.0; none = r.1; coming = c.0; letter = c.1 }
     where
       by : (x : KeptSense) (y : Query)

@@ -109,7 +109,7 @@ CommitHands p es k =
 -- the least line is never below the line, so that a Commit there is legal; it is End exactly where no message is left
 pub record LeastLine (w : World) : Type 0 where
   pub may : may_commit w (least_line w) ≡ true
-  pub end' : least_line w ≡ line.End → mail w.links ≡ []
+  pub at_end : least_line w ≡ line.End → mail w.links ≡ []
   pub stamp : (mail w.links ≡ [] → ⊥) → (s : Stamp) × (least_line w ≡ line.At s) × NotPast w.line s
 
 -- so it is in each world of a legal run

@@ -36,7 +36,7 @@ pub record PlayedUpTo (p : Plan) (w : World) (i : ℕ) (es : List Event) (r : Pl
   pub legal : is_legal_run p w done ≡ true
   pub world : r.world ≡ after_events p w done
   pub entries : r.entries ≡ committed_from p w done
-  pub end' : ((r.stopped ≡ None) × (rest ≡ [])) ⊎ ((e : Event) × (more : List Event)
+  pub stops : ((r.stopped ≡ None) × (rest ≡ [])) ⊎ ((e : Event) × (more : List Event)
       × (rest ≡ e ∷ more) × (is_legal p (after_events p w done) e ≡ false) × (r.stopped ≡ Some (i + length done)))
 
 -- what playing a list comes to

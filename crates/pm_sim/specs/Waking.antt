@@ -52,7 +52,7 @@ pub record LastStep (ss : List KeptStep) (s : KeptStep) : Type 0 where
   pub sense : KeptSense
   pub last : s.senses ≡ senses ++ sense ∷ []
   pub done : Each (λ (x : KeptSense). x.complete ≡ true) senses
-  pub open' : sense.complete ≡ false
+  pub is_open : sense.complete ≡ false
 
 -- what an open sense waits for: its Ask, or a hit of it with a turn; for a class query, its end
 abbrev pub Coming : Plan → World → Stamp → KeptSense → Query → Type 0

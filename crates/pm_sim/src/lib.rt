@@ -5,6 +5,7 @@
 mod journal_laws;
 mod kernel_laws;
 mod kernel_rows;
+mod reached;
 mod theorem;
 mod worked;
 
@@ -17,6 +18,7 @@ pub use kernel_laws::{
     numbers_stay_low, some_message_is_ready, who_waits_is_woken, windows_are_ok,
 };
 pub use kernel_rows::{a_late_write_is_kept_until_its_commit, playing_a_late_write};
+pub use reached::{events_reach_on, reached_worlds};
 pub use theorem::{prefix, simulation, whole};
 pub use worked::{
     a_late_write, a_moving_query, a_pruned_window, a_withdrawn_write, an_early_query,
