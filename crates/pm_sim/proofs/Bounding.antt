@@ -6,7 +6,7 @@ use Rattle.pm_ranges.specs.Joins.{Row, AllIn}
 use Rattle.pm_ranges.specs.Known.{grown}
 use Rattle.pm_base.specs.Windows.{inside}
 use Rattle.pm_clp.specs.Clps.{ClpState, rec_at}
-use Rattle.pm_sim.specs.Covers.{Door, is_there}
+use Rattle.pm_sim.specs.Covers.{Door}
 use Rattle.pm_sim.proofs.Sides.{Alike, alike_same, eq_self, eq_not}
 use Rattle.pm_sim.specs.Worlds.{ports, Link, Posted, Process, post_all, clps_of}
 use Rattle.pm_sim.proofs.Queries.{not_own_port}
@@ -21,7 +21,7 @@ use Rattle.pm_periods.specs.Records.{record_value}
 use Rattle.pm_plan.specs.declared.plan.Plan.{Plan}
 use Rattle.pm_sim.specs.Worlds.Process.{AtClp}
 use Rattle.pm_sim.specs.Sims.{In, NotPast, class_at, told}
-use Rattle.pm_sim.specs.Routings.{TreeOk}
+use Rattle.pm_sim.specs.Routings.{TreeOk, stands_at}
 use Rattle.pm_sim.proofs.Frames.{plain_frame, item_frame}
 use Rattle.pm_sim.proofs.Tells.{value_step, plain_step, grow_step, leave_step, arrive_step}
 
@@ -41,11 +41,11 @@ module _ (p : Plan) (tree : TreeOk p) (l : Line) (c : ℕ)
   abbrev pub Untaken : ℕ → Type 0
   Untaken k = (a b : Process) → items p k (between a b mid) ≡ items p k (between a b ls)
 
-  at_all : ((v : ℕ) → is_there (rec_at (cs' c).records v) ≡ is_there (rec_at (cs c).records v))
+  at_all : ((v : ℕ) → stands_at (rec_at (cs' c).records v) ≡ stands_at (rec_at (cs c).records v))
       → (k v d : ℕ) → (new k).at v d ≡ (old k).at v d
   at_all h k v d = elim (cases_eq d c) [
     | inl e ↦ subst (λ z. (new k).at v z ≡ (old k).at v z) (sym e) (ap (λ z. class_at p v == k && z) (h v))
-    | inr n ↦ ap (λ (z : ClpState). class_at p v == k && is_there (rec_at z.records v)) (there d n)
+    | inr n ↦ ap (λ (z : ClpState). class_at p v == k && stands_at (rec_at z.records v)) (there d n)
   ]
 
   vals : ((v : ℕ) (s : Stamp) → record_value (recs' v) s ≡ record_value (recs v) s)
@@ -104,7 +104,7 @@ module _ (p : Plan) (tree : TreeOk p) (l : Line) (c : ℕ)
   -- an event that touches no bound
   pub bounds_plain : ((k : ℕ) → Untaken k)
       → ((e k : ℕ) → items p k (sent_to e ss) ≡ []) → (cs' c).told ≡ (cs c).told → (cs' c).bound ≡ (cs c).bound
-      → ((v : ℕ) → is_there (rec_at (cs' c).records v) ≡ is_there (rec_at (cs c).records v))
+      → ((v : ℕ) → stands_at (rec_at (cs' c).records v) ≡ stands_at (rec_at (cs c).records v))
       → ((v : ℕ) (s : Stamp) → record_value (recs' v) s ≡ record_value (recs v) s)
       → BoundsOk p l recs' cs' (post_all (AtClp c) ss mid)
   bounds_plain same none told bound at val = record {
@@ -128,8 +128,8 @@ module _ (p : Plan) (tree : TreeOk p) (l : Line) (c : ℕ)
       → items p (class_at p v) (sent_to e ss) ≡ tells rows (known_at (ports p c) e (class_at p v) (cs c).told))
       → ((e k : ℕ) → (k ≡ class_at p v → ⊥) → items p k (sent_to e ss) ≡ [])
       → Alike (ports p c) (length p.layout.classes) (cs c).told (cs' c).told → (cs' c).bound ≡ (cs c).bound
-      → ((w : ℕ) → is_there (rec_at (cs' c).records w) ≡ is_there (rec_at (cs c).records w))
-      → ((d : ℕ) → is_there (rec_at (cs d).records v) ≡ true → d ≡ c)
+      → ((w : ℕ) → stands_at (rec_at (cs' c).records w) ≡ stands_at (rec_at (cs c).records w))
+      → ((d : ℕ) → stands_at (rec_at (cs d).records v) ≡ true → d ≡ c)
       → ((k d e : ℕ) → In (Moves v) (items p k (between (AtClp e) (AtClp d) ls)) → ⊥)
       → ((w : ℕ) → (w ≡ v → ⊥) → (s : Stamp) → record_value (recs' w) s ≡ record_value (recs w) s)
       → ((s : Stamp) (u : Window) → (record_value (recs' v) s ≡ record_value (recs v) s)
@@ -161,7 +161,7 @@ module _ (p : Plan) (tree : TreeOk p) (l : Line) (c : ℕ)
           (Door p) self s u c (suc c) [] ((old j).link (suc c) c) (λ e. items p j (sent_to e ss)) (old j) (new j)
           (plain_frame p c cs cs' ls mid recs recs' ss there j (same j)) (ok.covered j s np u) v rows
           refl out told (λ e. ap (known_at (ports p c) e j) bound) (λ e i. ok.told_line c e j s lc np) (at_all at j)
-          (λ d a. only d (right (class_at p v == j) (is_there (rec_at (cs d).records v)) a)) (λ d e i. still j d e i)
+          (λ d a. only d (right (class_at p v == j) (stands_at (rec_at (cs d).records v)) a)) (λ d e i. still j d e i)
           (λ w n. ap (λ z. cond (class_at p w == j) z no_value) (others w n s))
           (elim (value_v s u) [
             | inl e ↦ inl (val_in recs' j v s refl ∙ (e ∙ sym (val_in recs j v s refl)))
@@ -189,7 +189,7 @@ module _ (p : Plan) (tree : TreeOk p) (l : Line) (c : ℕ)
       → (e ≡ y → k ≡ j → ⊥) → known_at (ports p c) e k (cs' c).bound ≡ known_at (ports p c) e k (cs c).bound)
       → Alike (ports p c) (length p.layout.classes) (cs c).told (cs' c).told
       → Alike (ports p c) (length p.layout.classes) (cs c).bound (cs' c).bound
-      → ((v : ℕ) → is_there (rec_at (cs' c).records v) ≡ is_there (rec_at (cs c).records v))
+      → ((v : ℕ) → stands_at (rec_at (cs' c).records v) ≡ stands_at (rec_at (cs c).records v))
       → ((v : ℕ) (s : Stamp) → record_value (recs' v) s ≡ record_value (recs v) s)
       → BoundsOk p l recs' cs' (post_all (AtClp c) ss mid)
   bounds_grow y j r m ny
@@ -213,10 +213,11 @@ module _ (p : Plan) (tree : TreeOk p) (l : Line) (c : ℕ)
         ];
       }
 
-  at_but : (v : ℕ) → ((w : ℕ) → (w ≡ v → ⊥) → is_there (rec_at (cs' c).records w) ≡ is_there (rec_at (cs c).records w))
+  at_but : (v : ℕ)
+      → ((w : ℕ) → (w ≡ v → ⊥) → stands_at (rec_at (cs' c).records w) ≡ stands_at (rec_at (cs c).records w))
       → (k w d : ℕ) → (k ≡ class_at p v → ⊥) → (new k).at w d ≡ (old k).at w d
   at_but v h k w d n = elim (cases_eq d c) [
-    | inr m ↦ ap (λ (z : ClpState). class_at p w == k && is_there (rec_at z.records w)) (there d m)
+    | inr m ↦ ap (λ (z : ClpState). class_at p w == k && stands_at (rec_at z.records w)) (there d m)
     | inl e ↦ subst (λ z. (new k).at w z ≡ (old k).at w z) (sym e) (elim (cases_eq w v) [
       | inl f ↦ (let a : (class_at p w == k) ≡ false =
           ap (λ z. class_at p z == k) f ∙ eq_not (class_at p v) k (λ g. n (sym g)) in rw a)
@@ -232,8 +233,8 @@ module _ (p : Plan) (tree : TreeOk p) (l : Line) (c : ℕ)
       rows (known_at (ports p c) q (class_at p v) (cs c).bound) → ((e k : ℕ) → (e ≡ q → k ≡ class_at p v → ⊥)
       → known_at (ports p c) e k (cs' c).bound ≡ known_at (ports p c) e k (cs c).bound)
       → Alike (ports p c) (length p.layout.classes) (cs c).bound (cs' c).bound
-      → is_there (rec_at (cs c).records v) ≡ true → is_there (rec_at (cs' c).records v) ≡ false
-      → ((w : ℕ) → (w ≡ v → ⊥) → is_there (rec_at (cs' c).records w) ≡ is_there (rec_at (cs c).records w))
+      → stands_at (rec_at (cs c).records v) ≡ true → stands_at (rec_at (cs' c).records v) ≡ false
+      → ((w : ℕ) → (w ≡ v → ⊥) → stands_at (rec_at (cs' c).records w) ≡ stands_at (rec_at (cs c).records w))
       → ((w : ℕ) (s : Stamp) → record_value (recs' w) s ≡ record_value (recs w) s)
       → ((s : Stamp) → NotPast l s → (u : Window) → AllIn rows s u → inside (record_value (recs v) s) u ≡ true)
       → ((s : Stamp) → NotPast l s → (u : Window) → inside (record_value (recs v) s) u ≡ true → AllIn rows s u)
@@ -269,14 +270,14 @@ module _ (p : Plan) (tree : TreeOk p) (l : Line) (c : ℕ)
 
       at_less : (k w d : ℕ) → (new k).at w d ≡ true → (old k).at w d ≡ true
       at_less k w d a = elim (cases_eq d c) [
-        | inr m ↦ subst (λ (z : ClpState). (class_at p w == k && is_there (rec_at z.records w)) ≡ true) (there d m) a
+        | inr m ↦ subst (λ (z : ClpState). (class_at p w == k && stands_at (rec_at z.records w)) ≡ true) (there d m) a
         | inl e ↦ subst (λ z. (old k).at w z ≡ true) (sym e) (at_c (subst (λ z. (new k).at w z ≡ true) e a))
       ]
         where
           at_c : (new k).at w c ≡ true → (old k).at w c ≡ true
           at_c b = elim (cases_eq w v) [
-            | inl f ↦ absurd (no (class_at p w == k) (is_there (rec_at (cs' c).records w))
-                (subst (λ z. is_there (rec_at (cs' c).records z) ≡ false) (sym f) gone) b)
+            | inl f ↦ absurd (no (class_at p w == k) (stands_at (rec_at (cs' c).records w))
+                (subst (λ z. stands_at (rec_at (cs' c).records z) ≡ false) (sym f) gone) b)
             | inr m ↦ subst (λ z. (class_at p w == k && z) ≡ true) (at w m) b
           ]
             where
@@ -294,7 +295,7 @@ module _ (p : Plan) (tree : TreeOk p) (l : Line) (c : ℕ)
       rows (known_at (ports p c) y (class_at p v) (cs c).told) → ((e k : ℕ) → (e ≡ y → k ≡ class_at p v → ⊥)
       → known_at (ports p c) e k (cs' c).told ≡ known_at (ports p c) e k (cs c).told) → (cs' c).bound ≡ (cs c).bound
       → Alike (ports p c) (length p.layout.classes) (cs c).told (cs' c).told
-      → ((w : ℕ) → (w ≡ v → ⊥) → is_there (rec_at (cs' c).records w) ≡ is_there (rec_at (cs c).records w))
+      → ((w : ℕ) → (w ≡ v → ⊥) → stands_at (rec_at (cs' c).records w) ≡ stands_at (rec_at (cs c).records w))
       → ((w : ℕ) (s : Stamp) → record_value (recs' w) s ≡ record_value (recs w) s)
       → ((s : Stamp) → NotPast l s → (u : Window) → AllIn rows s u → inside (record_value (recs v) s) u ≡ true)
       → ((s : Stamp) → NotPast l s → (u : Window) → inside (record_value (recs v) s) u ≡ true → AllIn rows s u)
@@ -332,4 +333,4 @@ module _ (p : Plan) (tree : TreeOk p) (l : Line) (c : ℕ)
 
       at_there : (w d : ℕ) → (d ≡ c → ⊥) → (new j).at w d ≡ true → (old j).at w d ≡ true
       at_there w d n a =
-          subst (λ (z : ClpState). (class_at p w == j && is_there (rec_at z.records w)) ≡ true) (there d n) a
+          subst (λ (z : ClpState). (class_at p w == j && stands_at (rec_at z.records w)) ≡ true) (there d n) a

@@ -2,7 +2,7 @@
 use Rattle.pm_saved.specs.Spots.{find}
 use Rattle.pm_sim.specs.Bounds.{item_of}
 use Rattle.pm_sim.proofs.Fulls.{Full, taken_full, told_full, put_reads, cut_reads, watch_reads, placed}
-use Rattle.pm_sim.proofs.Fulls2.{forward_full, finish_full, ask_full, grow_full}
+use Rattle.pm_sim.proofs.FullRoutes.{forward_full, finish_full, ask_full, grow_full}
 use Rattle.pm_sim.proofs.Changes.{NamesAt, put_told, cut_told}
 use Rattle.pm_periods.specs.Rows.{IsInOrder, put_key}
 use Rattle.pm_sim.proofs.Watches.{watch_value}
@@ -34,7 +34,7 @@ use Rattle.pm_routes.specs.declared.way.Way.{Way}
 use Rattle.pm_sim.proofs.Comings.{move_size, move_sim}
 use Rattle.pm_sim.proofs.Movings.{counted_full, watched, move_kept}
 use Rattle.pm_sim.proofs.Acts.{acts_then, acts}
-use Rattle.pm_sim.proofs.Fulls3.{agent_full}
+use Rattle.pm_sim.proofs.FullCommits.{agent_full}
 use Rattle.pm_base.specs.declared.value.Query.TheVariants as query
 use Rattle.pm_message.specs.declared.Message.TheVariants as message
 use Rattle.pm_routes.specs.declared.way.Way.TheVariants as way

@@ -5,7 +5,7 @@ use Rattle.pm_alp.specs.declared.agent.Agent.{Agent}
 use Rattle.pm_saved.specs.Steps.{withdrawn}
 use Rattle.pm_saved.specs.Senses.{add_kept, answer, hits_eq, kept_turn}
 use Rattle.pm_saved.specs.Spots.{Spot, find}
-use Rattle.std.proofs.Common.{◌≡◌, refl, ◌∙◌, List, [], ◌∷◌, ◌++◌, map, filter, true, false, Bool, ℕ, zero, suc, ◌+◌, Option, Some, None}
+use Rattle.std.proofs.Common.{◌≡◌, refl, sym, ap, arith, ℤ, pos, negsuc, ◌∙◌, List, [], ◌∷◌, ◌++◌, map, filter, true, false, Bool, ℕ, zero, suc, ◌+◌, Option, Some, None}
 use Rattle.std.specs.Prelude.{if◌then◌else◌, nat_le, codes}
 use Rattle.pm_base.specs.Windows.{overlap}
 use Rattle.pm_base.specs.Layouts.{class_row}
@@ -19,6 +19,7 @@ use Rattle.pm_base.specs.declared.rows.PutRow.{PutRow}
 use Rattle.pm_base.specs.declared.stamp.Line.{Line}
 use Rattle.pm_base.specs.declared.stamp.Line.TheVariants as line
 use Rattle.pm_base.specs.declared.stamp.Stamp.{Stamp}
+use Rattle.pm_base.specs.declared.value.Hit.{Hit}
 use Rattle.pm_base.specs.declared.value.Query.TheVariants as query
 use Rattle.pm_message.specs.declared.Message.{Message}
 use Rattle.pm_message.specs.declared.Message.TheVariants as message
@@ -34,7 +35,24 @@ use Rattle.pm_sim.specs.Sims.{has_put}
 use Rattle.pm_sim.specs.Samples.{agent, all_then_commit, choosing, deliveries, entry, hit, late_write, moving_query, overtaken_cut, plan, read, root, root_and_left, scan, set_to, var, withdrawn_write, write}
 use Rattle.pm_sim.proofs.FastTurns.{run_same}
 use Rattle.pm_sim.proofs.Machines.{Tables, committed_by, committed_same, legal_run_by, legal_run_same, right}
-use Rattle.pm_sim.proofs.Rows.{Acts, at_once, box, by_acts, choice_acts, chosen, chooses, clamped, does_as, idle, late_actors, late_acts, moving_query_actors, nothing, overtaken_cut_actors, query_acts, reads, scans, sets, then_act, withdrawn_write_actors}
+use Rattle.pm_sim.proofs.Rows.{late_write_run_is, withdrawn_write_run_is, overtaken_cut_run_is, moving_query_run_is, Acts, at_once, box, by_acts, choice_acts, chosen, chooses, clamped, does_as, idle, late_actors, late_acts, moving_query_actors, nothing, overtaken_cut_actors, query_acts, reads, scans, sets, then_act, withdrawn_write_actors}
+
+-- the first coordinates of all hits in these entries, added up
+abbrev up : ℤ → ℕ
+up (pos n) = n
+up (negsuc n) = 0
+
+abbrev of_hits : List Hit → ℕ
+of_hits [] = 0
+of_hits (h ∷ hs) = up h.value.x + of_hits hs
+
+abbrev of_answers : List (List Hit) → ℕ
+of_answers [] = 0
+of_answers (a ∷ as') = of_hits a + of_answers as'
+
+abbrev seen : List Entry → ℕ
+seen [] = 0
+seen (e ∷ es) = of_answers e.answers + seen es
 
 -- what a plan's runs commit with other tables, and whether they are legal with them
 module _ (p : Plan) (t : Tables) where
@@ -76,6 +94,11 @@ pub late_write_keeps_hits_commits : commits late_write late_write_keeps_hits uns
 late_write_keeps_hits_commits =
     commits_by late_write late_write_keeps_hits late_acts late_actors unseen_write_run ∙ refl
 
+pub late_write_keeps_hits_differs : commits late_write late_write_keeps_hits unseen_write_run
+    ≡ sequential_run late_write → ⊥
+late_write_keeps_hits_differs e =
+    (let d : 0 ≡ 5 = ap seen (sym late_write_keeps_hits_commits ∙ (e ∙ late_write_run_is)) in omega (arith, d))
+
 -- ---- a rollback withdraws no write
 abbrev is_no_cut : Message → Bool
 is_no_cut (message.Cut n t v) = false
@@ -101,6 +124,11 @@ pub rollback_without_cuts_commits : commits withdrawn_write rollback_without_cut
     ∷ entry 2 ((hit 1 7 ∷ []) ∷ []) [] ∷ []
 rollback_without_cuts_commits =
     commits_by withdrawn_write rollback_without_cuts choice_acts withdrawn_write_actors uncut_run ∙ refl
+
+pub rollback_without_cuts_differs : commits withdrawn_write rollback_without_cuts uncut_run
+    ≡ sequential_run withdrawn_write → ⊥
+rollback_without_cuts_differs e =
+    (let d : 8 ≡ 1 = ap seen (sym rollback_without_cuts_commits ∙ (e ∙ withdrawn_write_run_is)) in omega (arith, d))
 
 -- ---- a rollback numbers from the sense on again
 abbrev renumbered : Actor → Agent → Spot → KeptSense → Sends
@@ -166,6 +194,10 @@ pub rewriting_run_is : sequential_run rewriting
 unfolding hits
 rewriting_run_is = run_same rewriting (by_acts rewriting_acts) rewriting_actors ∙ refl
 
+pub numbers_used_again_differs : commits rewriting numbers_used_again rewriting_run ≡ sequential_run rewriting → ⊥
+numbers_used_again_differs e =
+    (let d : 1 ≡ 9 = ap seen (sym numbers_used_again_commits ∙ (e ∙ rewriting_run_is)) in omega (arith, d))
+
 -- ---- a Cut that comes before its Put is dropped
 abbrev cut_if : Bool → ℕ → CutRow → Parts → Answered
 cut_if true v c r = take_cut v c r
@@ -196,6 +228,11 @@ unfolding overlap
 early_cut_is_dropped_commits =
     commits_by overtaken_cut early_cut_is_dropped choice_acts overtaken_cut_actors dropped_cut_run ∙ refl
 
+pub early_cut_is_dropped_differs : commits overtaken_cut early_cut_is_dropped dropped_cut_run
+    ≡ sequential_run overtaken_cut → ⊥
+early_cut_is_dropped_differs e =
+    (let d : 8 ≡ 1 = ap seen (sym early_cut_is_dropped_commits ∙ (e ∙ overtaken_cut_run_is)) in omega (arith, d))
+
 -- ---- a record that comes isn't watched by the queries that are registered
 abbrev skipping_queries : Hub → ℕ → Message → ClpState → ClpSends
 skipping_queries h from (message.Move v t r) s = no_clp_sends (installed h from v (settled r) s)
@@ -219,6 +256,11 @@ pub move_skips_registered_queries_commits : commits moving_query move_skips_regi
 unfolding overlap
 move_skips_registered_queries_commits =
     commits_by moving_query move_skips_registered_queries query_acts moving_query_actors skipped_query_run ∙ refl
+
+pub move_skips_registered_queries_differs : commits moving_query move_skips_registered_queries skipped_query_run
+    ≡ sequential_run moving_query → ⊥
+move_skips_registered_queries_differs e = (let d : 1 ≡ 2 =
+    ap seen (sym move_skips_registered_queries_commits ∙ (e ∙ moving_query_run_is)) in omega (arith, d))
 
 -- ---- a port prunes a query by its bound at the latest stamp
 abbrev latest : Stamp
@@ -272,6 +314,11 @@ pub taken_back_run_is : sequential_run taken_back
 unfolding hits
 taken_back_run_is = run_same taken_back (by_acts taken_back_acts) taken_back_actors ∙ refl
 
+pub prunes_by_the_latest_bound_differs : commits taken_back prunes_by_the_latest_bound taken_back_run
+    ≡ sequential_run taken_back → ⊥
+prunes_by_the_latest_bound_differs e =
+    (let d : 0 ≡ 50 = ap seen (sym prunes_by_the_latest_bound_commits ∙ (e ∙ taken_back_run_is)) in omega (arith, d))
+
 -- ---- a Commit drops the writes below its line and keeps the base from before them
 abbrev old_base : Line → Option Parts → Option Parts
 old_base l None = None
@@ -296,6 +343,11 @@ pub trim_keeps_the_old_base_commits : commits late_write trim_keeps_the_old_base
 trim_keeps_the_old_base_commits =
     commits_by late_write trim_keeps_the_old_base late_acts late_actors lost_write_run ∙ refl
 
+pub trim_keeps_the_old_base_differs : commits late_write trim_keeps_the_old_base lost_write_run
+    ≡ sequential_run late_write → ⊥
+trim_keeps_the_old_base_differs e =
+    (let d : 0 ≡ 5 = ap seen (sym trim_keeps_the_old_base_commits ∙ (e ∙ late_write_run_is)) in omega (arith, d))
+
 -- ---- a Commit may stand above messages that are on their way
 abbrev at_any_line : World → Line → Bool
 at_any_line w l = line_le w.line l
@@ -315,3 +367,8 @@ pub commit_line_ignores_messages_commits : commits late_write commit_line_ignore
     ≡ entry 1 ((hit 0 0 ∷ []) ∷ []) [] ∷ []
 commit_line_ignores_messages_commits =
     commits_by late_write commit_line_ignores_messages late_acts late_actors hasty_run ∙ refl
+
+pub commit_line_ignores_messages_differs : commits late_write commit_line_ignores_messages hasty_run
+    ≡ sequential_run late_write → ⊥
+commit_line_ignores_messages_differs e =
+    (let d : 0 ≡ 5 = ap seen (sym commit_line_ignores_messages_commits ∙ (e ∙ late_write_run_is)) in omega (arith, d))

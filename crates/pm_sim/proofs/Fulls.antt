@@ -10,7 +10,7 @@ use Rattle.pm_sim.proofs.Sides.{Alike, told_alike, periods_here, periods_else, E
 use Rattle.pm_sim.proofs.Changes.{rows_from}
 use Rattle.pm_sim.proofs.Acts.{acts, acts_here, acts_there, acts_bag, Quiet, quiet_act, quiet_telling, periods_begin, class_low}
 use Rattle.pm_sim.proofs.Places.{to_agent_of, lift, HubSends, clp_at, Sim, in_range, set_rec, set_here, set_there, landed, bag, clp_here, clp_there}
-use Rattle.pm_sim.specs.Covers.{Placed, Stands, AskedOk, Door, is_there}
+use Rattle.pm_sim.specs.Covers.{Placed, Stands, AskedOk, Door}
 use Rattle.pm_sim.proofs.Wires.{items_taken, no_items, between_mail, items_append}
 use Rattle.pm_sim.proofs.Bounding.{bounds_plain, bounds_told}
 use Rattle.pm_sim.specs.Worlds.{hub_of, ports, Link, Mail, Posted, Process, Taken, World, mail, take_from, clps_of, no_clp}
@@ -35,7 +35,7 @@ use Rattle.pm_periods.specs.Rows.{add_row, read_key}
 use Rattle.pm_plan.specs.declared.plan.Plan.{Plan}
 use Rattle.pm_sim.specs.Worlds.Process.{AtClp}
 use Rattle.pm_sim.specs.Sims.{In, NotPast, class_at, has_cut, has_put, has_read, told}
-use Rattle.pm_sim.specs.Routings.{is_move, mail_to}
+use Rattle.pm_sim.specs.Routings.{is_move, mail_to, stands_at}
 use Rattle.pm_sim.proofs.Asking.{asked_plain}
 use Rattle.pm_sim.proofs.Catches.{in_has}
 use Rattle.pm_sim.proofs.Letters.{sent_mail, in_map}
@@ -54,19 +54,19 @@ pub record Full (p : Plan) (q : State) (w : World) : Type 0 where
   pub asked : AskedOk p (length q.values) recs (clp_at w) (mail w.links)
   pub bounds : BoundsOk p w.line recs (clp_at w) w.links
 
-pub some_of : (o : Option Parts) → is_there o ≡ true → (y : Parts) × (o ≡ Some y)
+pub some_of : (o : Option Parts) → stands_at o ≡ true → (y : Parts) × (o ≡ Some y)
 some_of None e = absurd (cc)
 some_of (Some y) e = (y, refl)
 
-pub there_of : (o : Option Parts) (y : Parts) → o ≡ Some y → is_there o ≡ true
-there_of o y e = ap is_there e
+pub there_of : (o : Option Parts) (y : Parts) → o ≡ Some y → stands_at o ≡ true
+there_of o y e = ap stands_at e
 
 pub set_there_same : (rs : List (Option Parts)) (v : ℕ) (y r : Parts)
-    → rec_at rs v ≡ Some y → (u : ℕ) → is_there (rec_at (set rs v (Some r)) u) ≡ is_there (rec_at rs u)
+    → rec_at rs v ≡ Some y → (u : ℕ) → stands_at (rec_at (set rs v (Some r)) u) ≡ stands_at (rec_at rs u)
 set_there_same rs v y r e u = elim (cases_eq u v) [
-  | inl f ↦ subst (λ z. is_there (rec_at (set rs v (Some r)) z) ≡ is_there (rec_at rs z))
-      (sym f) (ap is_there (get_or-set_same rs v (Some r) None (in_range rs v y e)) ∙ sym (ap is_there e))
-  | inr ne ↦ ap is_there (get_or-set_other rs v u (Some r) None ne)
+  | inl f ↦ subst (λ z. stands_at (rec_at (set rs v (Some r)) z) ≡ stands_at (rec_at rs z))
+      (sym f) (ap stands_at (get_or-set_same rs v (Some r) None (in_range rs v y e)) ∙ sym (ap stands_at e))
+  | inr ne ↦ ap stands_at (get_or-set_other rs v u (Some r) None ne)
 ]
 
 -- a letter of no class
@@ -121,20 +121,20 @@ placed p q w recs sim = record {
       let pc = (sim.places.at c v o.1 o.0 o.2).0 in
       elim (sim.moves.placed v m.0).1 [
         | inl x ↦ (let z = x.1 in omega arith)
-        | inr x ↦ (let y : is_there (rec_at (clp_at w c).records v) ≡ false =
-            subst (λ z. is_there (rec_at (clp_at w z).records v) ≡ false) pc x.0 in cc)
+        | inr x ↦ (let y : stands_at (rec_at (clp_at w c).records v) ≡ false =
+            subst (λ z. stands_at (rec_at (clp_at w z).records v) ≡ false) pc x.0 in cc)
       ]);
   move_edge = λ a b v s r i. (let m = sim.moves.moves a b v s r i in (sim.place v, m.3, m.4, m.5, (m.6, m.7)));
   here = λ v c r e. (let o = in_clp c v (there_of _ r e) in (sim.places.at c v r o.0 e).1);
   moving = λ a b v s r i. (sim.moves.moves a b v s r i).1;
 }
   where
-    in_clp : (d v : ℕ) → is_there (rec_at (clp_at w d).records v) ≡ true
+    in_clp : (d v : ℕ) → stands_at (rec_at (clp_at w d).records v) ≡ true
         → (d < clps_of p) × (y : Parts) × (rec_at (clp_at w d).records v ≡ Some y)
     in_clp d v h = elim (in_or_out d) [
       | inl ld ↦ (let o = some_of _ h in (ld, o.0, o.1))
-      | inr n ↦ absurd (let f : is_there (rec_at (clp_at w d).records v) ≡ false = ap (λ (z : ClpState).
-          is_there (rec_at z.records v)) (get_past w.clps d no_clp (let o = sim.size in omega arith)) in cc)
+      | inr n ↦ absurd (let f : stands_at (rec_at (clp_at w d).records v) ≡ false = ap (λ (z : ClpState).
+          stands_at (rec_at z.records v)) (get_past w.clps d no_clp (let o = sim.size in omega arith)) in cc)
     ]
       where
         in_or_out : (d : ℕ) → (d < clps_of p) ⊎ (clps_of p ≤ d)
@@ -246,8 +246,8 @@ module _ (p : Plan) (q : State) (w : World) (recs : ℕ → Parts) (sim : Sim p 
       (acts_there p q w recs sim c lc r) bounds (λ k a b. refl) (λ e k. no_items p k e r.sent (λ x i. none x i k))
       (ap (λ (z : ClpState). z.told) (acts_here p q w recs sim c lc r) ∙ told)
       (ap (λ (z : ClpState). z.bound) (acts_here p q w recs sim c lc r) ∙ qt.bound)
-      (λ v. ap (λ (z : ClpState). is_there (rec_at z.records v)) (acts_here p q w recs sim c lc r)
-      ∙ ap (λ z. is_there (rec_at z v)) qt.records) (λ v z. refl)
+      (λ v. ap (λ (z : ClpState). stands_at (rec_at z.records v)) (acts_here p q w recs sim c lc r)
+      ∙ ap (λ z. stands_at (rec_at z v)) qt.records) (λ v z. refl)
 
   pub idle_full : (r : HubSends) → Quiet p c w.line s r
       → r.clp.told ≡ s.told → ((x : Posted) → In x r.sent → Itemless p x.message) → Full p q (acts w c r)
@@ -273,7 +273,7 @@ module _ (p : Plan) (q : State) (w : World) (recs : ℕ → Parts) (sim : Sim p 
         → Itemless p m → ((n : Num) (z : Stamp) (k : ℕ) (u : Window) → message.Ask n z (query.Class k u) ≡ m → ⊥)
         → ((x : Posted) → In x r.sent → Itemless p x.message)
         → r.clp.told ≡ s.told → r.clp.bound ≡ s.bound
-        → r.clp.queries ≡ s.queries → ((v : ℕ) → is_there (rec_at r.clp.records v) ≡ is_there (rec_at s.records v))
+        → r.clp.queries ≡ s.queries → ((v : ℕ) → stands_at (rec_at r.clp.records v) ≡ stands_at (rec_at s.records v))
         → ((v : ℕ) (z : Stamp) → record_value (recs' v) z ≡ record_value (recs v) z)
         → ((v : ℕ) (n : Num) → has_read n (recs v).reads ≡ true → has_read n (recs' v).reads ≡ true)
         → Full p q (W r)
@@ -289,12 +289,12 @@ module _ (p : Plan) (q : State) (w : World) (recs : ℕ → Parts) (sim : Sim p 
           (λ n h. ap (λ (z : ClpState). has_reg n z.queries) here ∙ (ap (has_reg n) queries ∙ h))
           (ap (λ (z : ClpState). z.queries) here ∙ queries) (ap (λ (z : ClpState). z.bound) here ∙ bound)
           (λ v y h. some_of (rec_at s.records v)
-          (sym (at v) ∙ (sym (ap (λ (z : ClpState). is_there (rec_at z.records v)) here) ∙ there_of _ y h)));
+          (sym (at v) ∙ (sym (ap (λ (z : ClpState). stands_at (rec_at z.records v)) here) ∙ there_of _ y h)));
       bounds = bounds_plain p sim.tree w.line c
           lc (clp_at w) (clp_at (W r)) w.links t.links recs recs' r.sent (clp_there p q w recs sim c lc from m t e em r)
           bounds (λ k. untaken k (none_m k)) (λ e' k. no_items p k e' r.sent (λ x i. none x i k))
           (ap (λ (z : ClpState). z.told) here ∙ told) (ap (λ (z : ClpState). z.bound) here ∙ bound)
-          (λ v. ap (λ (z : ClpState). is_there (rec_at z.records v)) here ∙ at v) val;
+          (λ v. ap (λ (z : ClpState). stands_at (rec_at z.records v)) here ∙ at v) val;
     }
       where
         here : clp_at (W r) c ≡ r.clp
@@ -335,7 +335,7 @@ module _ (p : Plan) (q : State) (w : World) (recs : ℕ → Parts) (sim : Sim p 
           (λ n h. ap (λ (x : ClpState). has_reg n x.queries) here ∙ (ap (has_reg n) qt.queries ∙ h))
           (ap (λ (x : ClpState). x.queries) here ∙ qt.queries) (ap (λ (x : ClpState). x.bound) here ∙ qt.bound)
           (λ u y h. some_of (rec_at s.records u)
-          (sym (at_same u) ∙ (sym (ap (λ (x : ClpState). is_there (rec_at x.records u)) here) ∙ there_of _ y h)));
+          (sym (at_same u) ∙ (sym (ap (λ (x : ClpState). stands_at (rec_at x.records u)) here) ∙ there_of _ y h)));
       bounds = bounds_told p sim.tree w.line c lc (clp_at w) (clp_at (W r)) w.links t.links recs recs' r.sent (clp_there
           p q w recs sim c lc from m t e em r) bounds v (rows_from a.rec (Some z)) (λ k. untaken k (none_m k))
           (λ e' port. ap (λ (x : ClpState). known_at (ports p c) e' (class_at p v) x.told) here
@@ -349,7 +349,7 @@ module _ (p : Plan) (q : State) (w : World) (recs : ℕ → Parts) (sim : Sim p 
           (sym (ap (λ (x : ClpState). x.told) here ∙ ap (λ (x : HubSends). x.clp.told) T_is))
           (told_alike p c (class_at p v) lk (λ d i. sim.tree.inside c d i) w.line ps s1 begins ok))
           (ap (λ (x : ClpState). x.bound) here ∙ qt.bound)
-          (λ u. ap (λ (x : ClpState). is_there (rec_at x.records u)) here ∙ at_same u)
+          (λ u. ap (λ (x : ClpState). stands_at (rec_at x.records u)) here ∙ at_same u)
           st.only (no_moving p (clp_at w) w.links v c st)
           (λ u ne y. ap (λ (x : Parts). record_value x y) (set_there recs v a.rec u ne))
           (λ y u. subst (λ x. (record_value x y ≡ record_value (recs v) y) ⊎ (AllIn (rows_from a.rec (Some z)) y u
@@ -404,8 +404,8 @@ module _ (p : Plan) (q : State) (w : World) (recs : ℕ → Parts) (sim : Sim p 
         st : Stands (clp_at w) (mail w.links) v c
         st = stands p recs (clp_at w) (mail w.links) (placed p q w recs sim) c v (recs v) at
 
-        at_same : (u : ℕ) → is_there (rec_at r.clp.records u) ≡ is_there (rec_at s.records u)
-        at_same u = ap (λ x. is_there (rec_at x u)) qt.records ∙ set_there_same s.records v (recs v) a.rec at u
+        at_same : (u : ℕ) → stands_at (rec_at r.clp.records u) ≡ stands_at (rec_at s.records u)
+        at_same u = ap (λ x. stands_at (rec_at x u)) qt.records ∙ set_there_same s.records v (recs v) a.rec at u
 
         at_port : (e' : ℕ) → Door p c e' → (known_at (ports p c) e' (class_at p v) TP.clp.told
             ≡ grow_all (rows_from a.rec (Some z)) (known_at (ports p c) e' (class_at p v) s1.told))

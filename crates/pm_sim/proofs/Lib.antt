@@ -38,8 +38,8 @@ pub mod Forwards
 pub mod Hubs
 pub mod Asking
 pub mod Fulls
-pub mod Fulls2
-pub mod Fulls3
+pub mod FullRoutes
+pub mod FullCommits
 pub mod Reaches
 pub mod Leavings
 pub mod Movings
@@ -59,7 +59,7 @@ pub mod Wires
 pub mod Frames
 pub mod Sides
 pub mod Bounding
-pub mod Firsts2
+pub mod FirstBounds
 pub mod Edges
 pub mod Ways
 pub mod Takings

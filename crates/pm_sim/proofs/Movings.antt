@@ -8,7 +8,7 @@ use Rattle.pm_sim.specs.Bounds.Item.{Moves}
 use Rattle.pm_ranges.specs.Known.{Known}
 use Rattle.pm_base.specs.Windows.{inside}
 use Rattle.pm_clp.specs.Clps.{catches, ask_of, floor_of, watch_if, Answered, ClpState, has_reg, rec_at, take_watch, to_agent, on_record, at_record, leaves, catching, leaving, with_count, counting, and_then, ClpSends, clp_after, queries_watch}
-use Rattle.pm_sim.specs.Covers.{Placed, AskedOk, Door, is_there}
+use Rattle.pm_sim.specs.Covers.{Placed, AskedOk, Door}
 use Rattle.pm_sim.proofs.Leavings.{gone_to, gone_is, left_sim}
 use Rattle.pm_sim.proofs.Sides.{Alike, periods_alike, side_periods, side_periods_else, eq_self, eq_not}
 use Rattle.pm_sim.proofs.Changes.{rows_from, all_in, in_all}
@@ -40,7 +40,7 @@ use Rattle.pm_periods.specs.Records.{record_value, settled, first_read, with_rea
 use Rattle.pm_plan.specs.declared.plan.Plan.{Plan}
 use Rattle.pm_sim.specs.Worlds.Process.{AtClp}
 use Rattle.pm_sim.specs.Sims.{In, NotPast, class_at, has_read}
-use Rattle.pm_sim.specs.Routings.{mail_to}
+use Rattle.pm_sim.specs.Routings.{mail_to, stands_at}
 use Rattle.pm_sim.proofs.Lists.{in_cases}
 use Rattle.pm_sim.proofs.Places.{clp_at, Sim, in_range, HubSends, set_rec, set_here, landed, bag, mail_in, clp_here, clp_there, lift, lift_then, hub_then, hub_idle}
 use Rattle.pm_sim.proofs.Stamps.{num_eq_self}
@@ -216,9 +216,9 @@ module _ (p : Plan) (q : State) (w : World) (recs : ℕ → Parts) (sim : Sim p 
         known_at (ports p c) e j z.bound) here ∙ side_periods_else (ports p c) K e j d k ps s.bound port lk okb n)
         (subst (λ z. Alike (ports p c) K s.bound z)
         (sym (ap (λ (z : ClpState). z.bound) here)) (periods_alike (ports p c) K d k ps s.bound port lk okb))
-        (ap is_there at) (ap (λ (z : ClpState). is_there (rec_at z.records v)) here ∙ ap is_there gone)
-        (λ u n. ap (λ (z : ClpState). is_there (rec_at z.records u)) here
-        ∙ ap is_there (get_or-set_other s.records v u None None n)) (λ u z. refl)
+        (ap stands_at at) (ap (λ (z : ClpState). stands_at (rec_at z.records v)) here ∙ ap stands_at gone)
+        (λ u n. ap (λ (z : ClpState). stands_at (rec_at z.records u)) here
+        ∙ ap stands_at (get_or-set_other s.records v u None None n)) (λ u z. refl)
         (λ z np u f. subst (λ (x : Parts). inside (record_value x z) u ≡ true) same (all_in y z u rising f))
         (λ z np u i. in_all y z u rising (subst (λ (x : Parts). inside (record_value x z) u ≡ true) (sym same) i));
   }
@@ -341,7 +341,7 @@ module _ (p : Plan) (q : State) (w : World) (recs : ℕ → Parts) (sim : Sim p 
           (ap (λ (x : ClpState). x.bound) here ∙ wt.bound)
           (subst (λ z. Alike (ports p c) K s.told z) (sym told_eq)
           (periods_alike (ports p c) K y (class_at p v) (periods_from (settled r0) None) s.told py lk okt))
-          (λ u n. ap (λ (x : ClpState). is_there (rec_at x.records u)) here ∙ ap is_there (else_same u n))
+          (λ u n. ap (λ (x : ClpState). stands_at (rec_at x.records u)) here ∙ ap stands_at (else_same u n))
           (set_values recs v wt.y (λ x. wt.values x ∙ ap (λ (k : Parts). record_value k x) same))
           (λ x np u f. subst
           (λ (k : Parts). inside (record_value k x) u ≡ true) same (all_in (settled r0) x u rising f)) (λ x np u i.

@@ -12,7 +12,7 @@ use Rattle.pm_sim.proofs.Ranges.{bound_none, bound_up, common_meets}
 use Rattle.std.proofs.lemmas.Int.{ints}
 use Rattle.std.proofs.lemmas.Bool.{and_parts, cases_Bool, cond_both, cases_eq}
 use Rattle.std.specs.Prelude.{int_le, pos, ℤ, ◌&&◌}
-use Rattle.pm_sim.specs.Covers.{AskedOk, Door, is_there}
+use Rattle.pm_sim.specs.Covers.{AskedOk, Door}
 use Rattle.pm_sim.proofs.Wires.{between_mail}
 use Rattle.pm_base.specs.declared.value.Value.{Value}
 use Rattle.pm_sim.proofs.Queries.{reg_of, clp_parts, toward_away, toward_home, no_turn_back}
@@ -249,7 +249,7 @@ module _ (p : Plan) (q : State) (w : World) (recs : ℕ → Parts) (sim : Sim p 
       first v ec lp at ne b f =
           let d : ℕ = sim.place v in
           let a : (class_at p v == j) ≡ true = grind (arith, nat_tests, ec) in
-          let here : net.at v d ≡ true = (let e = ap is_there at in rw (a, e)) in
+          let here : net.at v d ≡ true = (let e = ap stands_at at in rw (a, e)) in
           let i = (covered b).here d (hp d)
           v (lp, hop_in d lp ne) here ((covered b).heard d (hp d) (lp, hop_in d lp ne) f (link_fits d (hp d) b)) in
           subst (λ z. inside z b ≡ true) (rw a) i

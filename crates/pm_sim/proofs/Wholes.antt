@@ -3,13 +3,13 @@
 use Rattle.pm_saved.specs.Steps.{hand_out}
 use Rattle.pm_alp.specs.declared.agent.Agent.{Agent}
 use Rattle.pm_sim.proofs.Fulls.{Full}
-use Rattle.pm_sim.proofs.Fulls3.{fnd, commit_full}
+use Rattle.pm_sim.proofs.FullCommits.{fnd, commit_full}
 use Rattle.pm_sim.proofs.Deliveries.{deliver_full}
 use Rattle.pm_sim.proofs.Lines.{end, get_past}
 use Rattle.std.proofs.lemmas.Bool.{and_parts, cases_lt}
 use Rattle.std.proofs.Common.{◌≡◌, ℕ, inl, inr, Bool, true, false, cond, List, [], ◌∷◌, ◌++◌, map, filter, flat_map, length, get_or, refl, arith, ap, sym, ◌∙◌, subst, Option, Some, None, append_assoc, append-nil}
 use Rattle.std.proofs.lemmas.Bool.Decides.{nat_tests}
-use Rattle.pm_sim.proofs.Firsts2.{first_full}
+use Rattle.pm_sim.proofs.FirstBounds.{first_full}
 use Rattle.pm_base.specs.Stamps.{or_lower, least_line_of, stamp_lt}
 use Rattle.pm_model.specs.Runs.{IsTimely, rest, sequential_run, sequential_start}
 use Rattle.pm_base.specs.declared.rows.Entry.{Entry}

@@ -1,4 +1,5 @@
 -- What is known at tree ports of one class, and that it holds the values that stand behind them.
+use Rattle.pm_sim.specs.Routings.{stands_at}
 use Rattle.pm_tables.specs.Tables.{known_at, no_value}
 use Rattle.std.specs.Prelude.{ℕ, ◌<◌, ◌≡◌, ◌==◌, Bool, true, ◌&&◌, if◌then◌else◌, List, [], ◌∷◌, ◌++◌, length, Some}
 use Rattle.std.specs.List.{flat_map}
@@ -21,7 +22,7 @@ use Rattle.pm_tables.specs.Tables.{TableOk}
 use Rattle.pm_sim.specs.Worlds.{Link, Posted, Process, clps_of, is_link, is_process, ports}
 use Rattle.pm_sim.specs.Worlds.Process.{AtClp}
 use Rattle.pm_sim.specs.Sims.{In, NotPast, class_at}
-use Rattle.pm_sim.specs.Covers.{Door, is_there}
+use Rattle.pm_sim.specs.Covers.{Door}
 
 -- what is known, grown by these rows in order
 abbrev pub grow_all : List Row → Known → Known
@@ -137,7 +138,7 @@ net_of p k cs ls recs = record {
   told = λ d c. known_at (ports p d) c k (cs d).told;
   bound = λ d c. known_at (ports p d) c k (cs d).bound;
   link = λ d c. items p k (between (AtClp c) (AtClp d) ls);
-  at = λ v d. class_at p v == k && is_there (rec_at (cs d).records v);
+  at = λ v d. class_at p v == k && stands_at (rec_at (cs d).records v);
   val = λ v s. if class_at p v == k then record_value (recs v) s else no_value;
 }
 

@@ -1,4 +1,4 @@
--- What is known at tree ports of one class, and that it holds the values that stand behind them.
+-- What bounds and registered class queries rest on: where each record stands, and what is sent over each port.
 use Rattle.pm_tables.specs.Tables.{may_hold}
 use Rattle.pm_clp.specs.declared.sent.Registered.{Registered}
 use Rattle.std.specs.Prelude.{ℕ, ◌<◌, ◌≡◌, ◌⊎◌, Bool, true, List, Option, Some, false, length}
@@ -15,24 +15,21 @@ use Rattle.pm_sim.specs.Routings.{mail_to, stands_at}
 use Rattle.pm_base.specs.declared.value.Query.TheVariants as query
 use Rattle.pm_message.specs.declared.Message.TheVariants as message
 
--- a record is here
-abbrev pub is_there : Option Parts → Bool
-is_there o = stands_at o
-
 -- over an edge of the tree, from communication process d to c
 abbrev pub Door : Plan → ℕ → ℕ → Type 0
 Door p d c = (d < clps_of p) × In c (ports p d)
 
 -- v's record stands at CLP c, and nowhere else
 pub record Stands (cs : ℕ → ClpState) (ms : List Mail) (v c : ℕ) : Type 0 where
-  pub only : (d : ℕ) → is_there (rec_at (cs d).records v) ≡ true → d ≡ c
+  pub only : (d : ℕ) → stands_at (rec_at (cs d).records v) ≡ true → d ≡ c
   pub still : (a b : Process) (s : Stamp) (r : Parts) → In (mail_to a b (message.Move v s r)) ms → ⊥
 
 -- what bounds need of places: each record is at one communication process, or in Moves over edges of the tree, and is
 -- recs v wherever it is
 pub record Placed (p : Plan) (recs : ℕ → Parts) (cs : ℕ → ClpState) (ms : List Mail) : Type 0 where
-  pub only : (v c d : ℕ) → is_there (rec_at (cs c).records v) ≡ true → is_there (rec_at (cs d).records v) ≡ true → c ≡ d
-  pub still : (v c : ℕ) → is_there (rec_at (cs c).records v) ≡ true
+  pub only : (v c d : ℕ)
+      → stands_at (rec_at (cs c).records v) ≡ true → stands_at (rec_at (cs d).records v) ≡ true → c ≡ d
+  pub still : (v c : ℕ) → stands_at (rec_at (cs c).records v) ≡ true
       → (a b : Process) (s : Stamp) (r : Parts) → In (mail_to a b (message.Move v s r)) ms → ⊥
   pub move_edge : (a b : Process) (v : ℕ) (s : Stamp) (r : Parts)
       → In (mail_to a b (message.Move v s r)) ms → (c d : ℕ) × (a ≡ AtClp c) × (b ≡ AtClp d) × Door p d c

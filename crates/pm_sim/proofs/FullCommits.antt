@@ -12,7 +12,7 @@ use Rattle.pm_sim.proofs.Locals.{after, bag}
 use Rattle.pm_routes.specs.Routings.{place_of}
 use Rattle.pm_sim.proofs.Ranges.{trim_fits, fits_trim, trim_bound}
 use Rattle.pm_sim.proofs.Wires.{Took, took, posted_else}
-use Rattle.pm_sim.specs.Covers.{AskedOk, is_there, Door}
+use Rattle.pm_sim.specs.Covers.{AskedOk, Door}
 use Rattle.pm_sim.proofs.Nets.{goes_same, comes_same}
 use Rattle.pm_sim.specs.Worlds.{ports, post_all, addressed, Posted, Mail, Process, Taken, World, commit, home, mail, take_from, clps_of, no_clp}
 use Rattle.pm_sim.proofs.Queries.{reg_of, has_reg_in}
@@ -34,7 +34,7 @@ use Rattle.pm_plan.specs.declared.plan.Plan.{Plan}
 use Rattle.pm_alp.specs.Agents.{Sends}
 use Rattle.pm_sim.specs.Worlds.Process.{AtClp, AtAgent}
 use Rattle.pm_sim.specs.Sims.{In, NotPast, Past, class_at, has_read, is_past}
-use Rattle.pm_sim.specs.Routings.{mail_to}
+use Rattle.pm_sim.specs.Routings.{mail_to, stands_at}
 use Rattle.pm_sim.proofs.Letters.{letters, in_map}
 use Rattle.pm_sim.proofs.Lines.{get_past, end, commit_sim}
 use Rattle.pm_sim.proofs.Places.{clp_at, queries_at, Pending, Sim}
@@ -79,7 +79,7 @@ module _ (p : Plan) (q : State) (w : World) (recs : ℕ → Parts) (sim : Sim p 
         told = λ d c. known_at (ports p d) c k (clp_at w d).told;
         bound = λ d c. known_at (ports p d) c k (clp_at w d).bound;
         link = λ d c. items p k (sym (same c d) i);
-        at = λ v d. class_at p v == k && is_there (rec_at (clp_at w d).records v);
+        at = λ v d. class_at p v == k && stands_at (rec_at (clp_at w d).records v);
         val = λ v z. cond (class_at p v == k) (record_value (recs v) z) no_value;
       }) (bounds.covered k s np u);
     };
@@ -164,7 +164,7 @@ trim_get k [] v = refl
 trim_get k (r ∷ rs) zero = refl
 trim_get k (r ∷ rs) (suc v) = trim_get k rs v
 
-trim_there : (k : Line) (o : Option Parts) → is_there (option_trim k o) ≡ is_there o
+trim_there : (k : Line) (o : Option Parts) → stands_at (option_trim k o) ≡ stands_at o
 trim_there k None = refl
 trim_there k (Some r) = refl
 
@@ -208,10 +208,10 @@ module _ (p : Plan) (q : State) (w : World) (recs : ℕ → Parts) (sim : Sim p 
   rec_is : (d v : ℕ) → d < clps_of p → rec_at (clp_at w' d).records v ≡ option_trim k (rec_at (clp_at w d).records v)
   rec_is d v lt = ap (λ (z : ClpState). rec_at z.records v) (in_clps d lt) ∙ trim_get k (clp_at w d).records v
 
-  there_is : (d v : ℕ) → is_there (rec_at (clp_at w' d).records v) ≡ is_there (rec_at (clp_at w d).records v)
+  there_is : (d v : ℕ) → stands_at (rec_at (clp_at w' d).records v) ≡ stands_at (rec_at (clp_at w d).records v)
   there_is d v = elim (cases_lt d (clps_of p)) [
-    | inl lt ↦ ap is_there (rec_is d v lt) ∙ trim_there k (rec_at (clp_at w d).records v)
-    | inr ge ↦ (let o = beyond d ge in ap (λ (z : ClpState). is_there (rec_at z.records v)) (o.0 ∙ sym o.1))
+    | inl lt ↦ ap stands_at (rec_is d v lt) ∙ trim_there k (rec_at (clp_at w d).records v)
+    | inr ge ↦ (let o = beyond d ge in ap (λ (z : ClpState). stands_at (rec_at z.records v)) (o.0 ∙ sym o.1))
   ]
 
   val_is : (v : ℕ) (s : Stamp) → NotPast k s → record_value (recs' v) s ≡ record_value (recs v) s

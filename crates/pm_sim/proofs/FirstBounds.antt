@@ -1,4 +1,5 @@
 -- The first bounds hold the first values.
+use Rattle.pm_sim.specs.Routings.{stands_at}
 use Rattle.pm_tables.specs.Tables.{known_at, always, first_row, grown_first, is_towards, no_value}
 use Rattle.pm_sim.specs.Bounds.{Going, Comes, between, items, table_ok, BoundsOk}
 use Rattle.pm_ranges.specs.Fits.{Fits}
@@ -20,7 +21,7 @@ use Rattle.pm_plan.specs.Trees.{hop}
 use Rattle.pm_sim.specs.Worlds.{Mail, World, first_way, first_world, ports}
 use Rattle.pm_sim.specs.Worlds.Process.{AtClp}
 use Rattle.pm_sim.specs.Sims.{In, NotPast, class_at}
-use Rattle.pm_sim.specs.Covers.{Door, is_there}
+use Rattle.pm_sim.specs.Covers.{Door}
 use Rattle.pm_sim.proofs.Ranges.{grow_fits, grow_back, grow_line}
 use Rattle.pm_sim.proofs.Sides.{eq_self, eq_not}
 use Rattle.pm_sim.proofs.Places.{Sim, clp_at, in_range}
@@ -256,11 +257,11 @@ module _ (p : Plan) (fit : PlanFits p) where
               | inr a ↦ ap (is_towards d) (way_port c v lv a.0 ∙ ap way.Port a.1) ∙ eq_self d
             ]
 
-    here_at : (d c v : ℕ) → Door p d c → (class_at p v == k && is_there (rec_at (clp_at W d).records v)) ≡ true
+    here_at : (d c v : ℕ) → Door p d c → (class_at p v == k && stands_at (rec_at (clp_at W d).records v)) ≡ true
         → Fits s u (known_at (ports p d) c k (clp_at W d).told)
         → inside (cond (class_at p v == k) (record_value (recs p fit v) s) no_value) u ≡ true
     here_at d c v pr a f =
-        let parts = and_parts (class_at p v == k) (is_there (rec_at (clp_at W d).records v)) a in
+        let parts = and_parts (class_at p v == k) (stands_at (rec_at (clp_at W d).records v)) a in
         let ec : class_at p v ≡ k = (let x = parts.0 in grind (arith, nat_tests, x)) in
         let o = some_of (rec_at (clp_at W d).records v) parts.1 in
         let lv : v < length vals = (let x =

@@ -8,7 +8,7 @@ use Rattle.pm_sim.specs.Bounds.Item.{Grows}
 use Rattle.pm_ranges.specs.Joins.{Row}
 use Rattle.pm_ranges.specs.Known.{Known, grown}
 use Rattle.pm_clp.specs.Clps.{catching, tell, caught, catches, finish_if, finish_one, without, ClpState, has_reg, ask_of, rec_at, add_reg, watch_all, forwards, registered, finish_in, sent_on, has, clp_after, ClpSends, no_clp_sends, and_then, after_finish}
-use Rattle.pm_sim.specs.Covers.{AskedOk, Door, is_there}
+use Rattle.pm_sim.specs.Covers.{AskedOk, Door}
 use Rattle.pm_sim.proofs.Sides.{Alike, tell_alike, tell_here, tell_else, grow_alike, side_same, side_else, eq_self, eq_not}
 use Rattle.pm_sim.proofs.Bounding.{bounds_plain, bounds_grow}
 use Rattle.pm_sim.proofs.Wires.{Took, took, no_items, items_append}
@@ -34,7 +34,7 @@ use Rattle.pm_plan.specs.declared.plan.Plan.{Plan}
 use Rattle.pm_sim.specs.Worlds.{Mail, Posted, Process, Taken, World, mail, take_from, clps_of, ports, process, number, hub_of, posted}
 use Rattle.pm_sim.specs.Worlds.Process.{AtClp}
 use Rattle.pm_sim.specs.Sims.{In, has_read, one_if, tally}
-use Rattle.pm_sim.specs.Routings.{mail_to, toward}
+use Rattle.pm_sim.specs.Routings.{mail_to, toward, stands_at}
 use Rattle.pm_sim.proofs.Ends.{FinishIs, finish_is}
 use Rattle.pm_sim.proofs.Letters.{message_of, sent_mail, in_map, map_in}
 use Rattle.pm_sim.proofs.Lists.{in_left, in_right, in_cases}
@@ -203,7 +203,7 @@ module _ (p : Plan) (q : State) (w : World) (recs : ℕ → Parts) (sim : Sim p 
             bounds (λ k'. untaken p q w recs sim asked bounds c lc from (message.Finish k z) t e em k' refl)
             (λ e' k'. no_items p k' e' r.sent (λ x i. finish_itemless p k d0 s.queries x i k'))
             (ap (λ (x : ClpState). x.told) here) (ap (λ (x : ClpState). x.bound) here)
-            (λ v. ap (λ (x : ClpState). is_there (rec_at x.records v)) here) (λ v z'. refl);
+            (λ v. ap (λ (x : ClpState). stands_at (rec_at x.records v)) here) (λ v z'. refl);
       })
     where
       r : HubSends
@@ -282,7 +282,7 @@ module _ (p : Plan) (q : State) (w : World) (recs : ℕ → Parts) (sim : Sim p 
         bounds (λ k'. untaken p q w recs sim asked bounds c lc from m t e em k' refl)
         (λ e' k'. no_items p k' e' r.sent (λ y i. itemless y i k'))
         (ap (λ (y : ClpState). y.told) here ∙ wt.told) (ap (λ (y : ClpState). y.bound) here ∙ wt.bound)
-        (λ v. ap (λ (y : ClpState). is_there (rec_at y.records v)) here ∙ same_there v) wt.values;
+        (λ v. ap (λ (y : ClpState). stands_at (rec_at y.records v)) here ∙ same_there v) wt.values;
   })
     where
       m : Message
@@ -391,14 +391,14 @@ module _ (p : Plan) (q : State) (w : World) (recs : ℕ → Parts) (sim : Sim p 
             let i = in_has d ds (filter_in (sent_on (hub_of p c) r1.clp.bound fn x z u) (ports p c) d port on) in cc)
       ]
 
-      same_there : (v : ℕ) → is_there (rec_at r1.clp.records v) ≡ is_there (rec_at s.records v)
+      same_there : (v : ℕ) → stands_at (rec_at r1.clp.records v) ≡ stands_at (rec_at s.records v)
       same_there v = go (rec_at s.records v) refl
         where
           go : (o : Option Parts)
-              → rec_at s.records v ≡ o → is_there (rec_at r1.clp.records v) ≡ is_there (rec_at s.records v)
-          go (Some y) f = (let o = wt.goes v y f in ap is_there o.1 ∙ sym (ap is_there f))
-          go None f = elim (cases_Bool (is_there (rec_at r1.clp.records v))) [
-            | inr g ↦ g ∙ sym (ap is_there f)
+              → rec_at s.records v ≡ o → stands_at (rec_at r1.clp.records v) ≡ stands_at (rec_at s.records v)
+          go (Some y) f = (let o = wt.goes v y f in ap stands_at o.1 ∙ sym (ap stands_at f))
+          go None f = elim (cases_Bool (stands_at (rec_at r1.clp.records v))) [
+            | inr g ↦ g ∙ sym (ap stands_at f)
             | inl g ↦
                 absurd (let y = some_of _ g in let o = wt.back v y.0 y.1 in let h : None ≡ Some o.0 = sym f ∙ o.1 in cc)
           ]
@@ -444,7 +444,7 @@ module _ (p : Plan) (q : State) (w : World) (recs : ℕ → Parts) (sim : Sim p 
             (tell_alike p c k lk (λ x i. sim.tree.inside c x i) z until u others s2 in_others okt))
             (subst
             (λ x. Alike (ports p c) K s.bound x) (sym here_b) (grow_alike (ports p c) K d k when u s.bound port lk okb))
-            (λ v. ap is_there (here_r v)) (λ v z'. refl);
+            (λ v. ap stands_at (here_r v)) (λ v z'. refl);
       })
     where
       m : Message
