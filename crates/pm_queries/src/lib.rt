@@ -1,0 +1,10 @@
+//! The class queries that a communication process has registered: in order, found by number, and gone over by class.
+#![tactic(auto)]
+
+mod class_rows;
+mod ports;
+mod queries;
+mod registered;
+
+pub use queries::Queries;
+pub use registered::{Registered, Sent};
