@@ -1,6 +1,6 @@
 //! Texts of journals that are printed, read and refused.
-use crate::{JournalFault, print, read};
-use pm_base::{Event, Journal, Line, Stamp};
+use crate::{Heard, History, JournalFault, merge, print, read};
+use pm_base::{Event, Journal, Line, List, Stamp};
 use std::alloc::AllocError;
 use std::test::Fail;
 
@@ -57,5 +57,32 @@ fn the_first_faulty_line_is_named(rt: HostRuntime) -> Result<(), Fail> {
         };
         assert_eq!(rt; told, wanted, "{text}");
     }
+    Ok(())
+}
+
+#[test]
+fn histories_merge_by_clock_and_then_by_process(rt: HostRuntime) -> Result<(), Fail> {
+    let alloc = rt.alloc();
+    let mut first = History::new(alloc, 0);
+    first
+        .hear(Heard { clock: 2, from: 1 })
+        .expect(&rt, "memory");
+    first
+        .hear(Heard { clock: 4, from: 1 })
+        .expect(&rt, "memory");
+    let mut second = History::new(alloc, 1);
+    second
+        .hear(Heard { clock: 2, from: 1 })
+        .expect(&rt, "memory");
+    let mut histories = List::new(alloc);
+    histories
+        .push(second.copy(alloc).expect(&rt, "memory"))
+        .expect(&rt, "memory");
+    histories.push(first).expect(&rt, "memory");
+    let journal = merge(alloc, &histories).expect(&rt, "memory");
+    let bytes = print(alloc, &journal).expect(&rt, "memory");
+    assert!(rt; bytes.as_slice() == "#j d 0 1\n#j d 1 1\n#j d 0 1\n".as_bytes());
+    second.clear();
+    assert!(rt; second.process() == 1 && second.heard().len() == 0);
     Ok(())
 }
