@@ -1,7 +1,7 @@
 -- What bounds and registered class queries rest on: where each record stands, and what is sent over each port.
 use Rattle.pm_tables.specs.Tables.{may_hold}
 use Rattle.pm_clp.specs.declared.sent.Registered.{Registered}
-use Rattle.std.specs.Prelude.{ℕ, ◌<◌, ◌≡◌, ◌⊎◌, Bool, true, List, Option, Some, false, length}
+use Rattle.std.specs.Prelude.{ℕ, ◌<◌, ◌≡◌, ◌⊎◌, true, List, Option, Some, false, length}
 use Rattle.pm_base.specs.declared.rows.Parts.{Parts}
 use Rattle.pm_base.specs.declared.stamp.Stamp.{Stamp}
 use Rattle.pm_base.specs.declared.value.Window.{Window}
