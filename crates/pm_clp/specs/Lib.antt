@@ -1,2 +1,5 @@
 pub mod Clps
+pub mod Kept
+pub mod Sample
 pub mod Takes
+pub mod Views

@@ -2,8 +2,10 @@
 //! own, and moves a variable towards those that use it.
 #![tactic(auto)]
 
+mod clp;
 mod laws;
+mod records;
 mod sent;
 
-pub use laws::no_wake_is_taken;
+pub use laws::{no_wake_is_taken, sample_moves, sample_writes};
 pub use sent::{Registered, Sent};

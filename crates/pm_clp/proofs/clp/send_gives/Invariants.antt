@@ -1,0 +1,6 @@
+use Rattle.std.proofs.Common.{◌≡◌, ◌++◌, map, take}
+use Rattle.pm_clp.specs.Views.{give_to}
+use Rattle.pm_clp.proofs.clp.send_gives.Given as goal
+
+abbrev pub invariant-loop-row : goal.invariant-loop-row
+invariant-loop-row l = l.out ≡ l.fn.out ++ map (give_to l.to_agents) (take l.row-index l.gives)

@@ -1,0 +1,37 @@
+use Rattle.std.proofs.Common.{◌≡◌, ◌<◌, ◌≤◌, ◌+◌, ◌^◌, suc, arith, length, get_or, None, Option, refl, subst, sym, ap}
+use Rattle.std.specs.Option.{option_to_list}
+use Rattle.pm_clp.specs.Clps.{take_put}
+use Rattle.pm_clp.specs.Kept.{IsRecordOf, Kept}
+use Rattle.pm_clp.proofs.Keeping.{Found, found-of, gives_ok, have_turns, set-records, view_ok}
+use Rattle.pm_clp.proofs.records.Records.put.Goals as goal
+
+pub put_in-requires : goal.put_in-requires
+put_in-requires c =
+    let f : Found c.self.inside.each.items c.self.inside.limit c.args.var c.index_mut.result.now =
+    record { all = c.self.invariant; below = omega arith; is = c.index_mut.ensures.value } in
+    let same = ap (λ (k : Kept). k.limit) c.self.view_is in
+    have_turns c.self.inside.limit (omega arith) c.index_mut.result.now c.args.var (found-of _ _ _ _ f)
+
+pub invariant_of-self-2 : goal.invariant_of-self-2
+invariant_of-self-2 c =
+    let f : Found c.self.inside.each.items c.self.inside.limit c.args.var c.index_mut.result.now =
+    record { all = c.self.invariant; below = omega arith; is = c.index_mut.ensures.value } in
+    let more : suc c.self.inside.limit ≡ c.self.inside.limit + 1 = omega arith in
+    set-records c.self.inside.each.items c.self.inside.limit (c.self.inside.limit + 1) c.args.var c.put_in.new.kept c.self.invariant (omega arith)
+    (subst (λ n. IsRecordOf n c.args.var c.put_in.new.kept) more (c.put_in.ensures.turns c.args.var c.self.inside.limit (found-of _ _ _ _ f)))
+
+pub returns-clause-ok : goal.returns-clause-ok
+returns-clause-ok c =
+    let f : Found c.self.inside.each.items c.self.inside.limit c.args.var c.index_mut.result.now =
+    record { all = c.self.invariant; below = omega arith; is = c.index_mut.ensures.value } in
+    let same = ap (λ (k : Kept). k.limit) c.self.view_is in
+    view_ok c.put_in.result (λ v. take_put v c.args.row) c.args.var c.self.inside.each.items c.index_mut.result.now
+    c.put_in.new.kept c.self.inside.limit (c.self.inside.limit + 1) (suc c.args.self.now.limit) c.args.self.now c.self.view_is f
+    (omega arith) c.put_in.ensures.ok
+
+pub returns-clause-gives : goal.returns-clause-gives
+returns-clause-gives c =
+    let f : Found c.self.inside.each.items c.self.inside.limit c.args.var c.index_mut.result.now =
+    record { all = c.self.invariant; below = omega arith; is = c.index_mut.ensures.value } in
+    gives_ok (λ g. g) c.put_in.result (λ v. take_put v c.args.row) c.args.var c.self.inside.each.items
+    c.index_mut.result.now c.self.inside.limit c.args.self.now c.self.view_is f c.put_in.ensures.gives

@@ -1,0 +1,389 @@
+// A communication process.
+ghost use Rattle.std.specs.Prelude.{◌≡◌, ◌<◌, ◌+◌, ◌^◌, [], ◌∷◌, ◌++◌, false, if◌then◌else◌, filter, get_or, length, map, IfOk, OnOk, Some};
+ghost use Rattle.std.specs.Option.{option_to_list};
+ghost use Rattle.pm_base.specs.Windows.{is_inverted};
+ghost use Rattle.pm_base.specs.Layouts.{var_count};
+ghost use Rattle.pm_clp.specs.Clps.{at_record, floor_of, grow_bound, sent_on};
+ghost use Rattle.pm_clp.specs.Clps.{take_cut, take_put, take_watch, tell, tell_from, tell_one, tell_periods, telling};
+ghost use Rattle.pm_clp.specs.Clps.{to_agent, watch_all};
+ghost use Rattle.pm_routes.specs.Routings.{place_of, way_at};
+ghost use Rattle.pm_routes.specs.declared.way.Way.TheVariants as way;
+ghost use Rattle.pm_clp.specs.Views.{Did, DidRaise, give_to, others, sent_if, sent_off};
+
+use crate::records::Records;
+use crate::sent::{Registered, Sent};
+use pm_base::{
+    ClassRow, CutRow, GiveRow, Interval, Layout, Line, List, Memory, Num, Period, PutRow, Stamp,
+    Window,
+};
+use pm_message::Message;
+use pm_periods::VarRecord;
+use pm_routes::{Routes, Way};
+use pm_tables::Table;
+use std::alloc::Global;
+use std::marker::Model;
+
+/// A communication process between messages.
+#[derive(Debug, Drop)]
+pub struct Clp {
+    ports: List<u32>,
+    to_agents: List<u32>,
+    layout: Layout,
+    records: Records,
+    routes: Routes,
+    line: Line,
+    queries: List<Registered>,
+    bound: Table,
+    told: Table,
+    made: u64,
+    spoilt: bool,
+}
+
+impl Model for Clp {
+    ghost use Rattle.pm_clp.specs.Views.{ClpView, IsClp, hub_of, state_of};
+
+    ghost Value = { ClpView };
+
+    ghost view = { λ c. record {
+      hub = hub_of c.ports c.to_agents c.layout;
+      clp = state_of c.records c.routes c.line c.queries c.bound c.told;
+      limit = c.records.limit;
+      made = c.made;
+      spoilt = c.spoilt;
+    } };
+
+    ghost invariant = { λ c. IsClp c.ports c.layout c.records c.routes c.made };
+}
+
+// A message to each of these reads' agents, in order.
+fn send_gives(to_agents: &List<u32>, gives: &[GiveRow], out: &mut List<Sent>) -> Result<(), Memory>
+    ensures { OnOk result (out.new ≡ out.old ++ map (give_to to_agents.now) gives.now) }
+{
+    for row in gives {
+        send_give(to_agents, *row, out)?;
+    }
+    Ok(())
+}
+
+fn send_give(to_agents: &List<u32>, row: GiveRow, out: &mut List<Sent>) -> Result<(), Memory>
+    ensures { OnOk result (out.new ≡ out.old ++ give_to to_agents.now row ∷ []) }
+{
+    let to = match to_agents.get(row.num.agent as usize) {
+        Some(to) => *to,
+        None => 0,
+    };
+    out.push(Sent {
+        to,
+        message: Message::Give { row },
+    })
+}
+
+impl Clp {
+    // The variable's record, where it is here, takes a write.
+    fn record_put(
+        &mut self,
+        alloc: Global,
+        var: u32,
+        row: PutRow,
+        out: &mut List<Sent>,
+    ) -> Result<(), Memory>
+        requires { self.old.limit < 2 ^ 32 + self.old.made }
+        ensures { OnOk result (DidRaise self.old self.new out.old out.new
+            (at_record self.old.hub var (take_put var row))) }
+    {
+        let gives = self.records.put(alloc, var, row)?;
+        send_gives(&self.to_agents, gives.as_slice(), out)
+    }
+
+    // The variable's record, where it is here, takes a withdrawal.
+    fn record_cut(
+        &mut self,
+        alloc: Global,
+        var: u32,
+        row: CutRow,
+        out: &mut List<Sent>,
+    ) -> Result<(), Memory>
+        requires { self.old.limit < 2 ^ 32 + self.old.made }
+        ensures { OnOk result (DidRaise self.old self.new out.old out.new
+            (at_record self.old.hub var (take_cut var row))) }
+    {
+        let gives = self.records.cut(alloc, var, row)?;
+        send_gives(&self.to_agents, gives.as_slice(), out)
+    }
+
+    // The variable's record, where it is here, takes a read.
+    fn record_watch(
+        &mut self,
+        alloc: Global,
+        var: u32,
+        num: Num,
+        stamp: Stamp,
+        window: Window,
+        out: &mut List<Sent>,
+    ) -> Result<(), Memory>
+        ensures { OnOk result (Did self.old self.new out.old out.new
+            (at_record self.old.hub var (take_watch var num stamp window))) }
+    {
+        match self.records.watch(alloc, var, num, stamp, window)? {
+            Some(row) => send_give(&self.to_agents, row, out),
+            None => Ok(()),
+        }
+    }
+
+    // A port is told of a window of the class in an interval, unless what it was told covers it.
+    fn tell_one(
+        &mut self,
+        alloc: Global,
+        class: u32,
+        from: Stamp,
+        until: Option<Stamp>,
+        window: Window,
+        port: u32,
+        out: &mut List<Sent>,
+    ) -> Result<(), Memory>
+        requires { is_inverted window ≡ false }
+        ensures { OnOk result (Did self.old self.new out.old out.new
+            (tell_one self.old.hub class from until window port)) }
+    {
+        let place = self.place_of(port);
+        let when = Interval {
+            from: Some(from),
+            until,
+        };
+        let grew = self.told.grow(alloc, place, class, when, window)?;
+        push_if(
+            grew,
+            port,
+            Message::Grow {
+                class,
+                from,
+                until,
+                window,
+            },
+            out,
+        )
+    }
+
+    // The place of a tree port.
+    fn place_of(&self, port: u32) -> usize
+        ensures { result ≡ place_of self.now.hub.ports port }
+    {
+        self.routes.place_of(port)
+    }
+
+    // Whether a query goes on to the port: it didn't come from there, and a value in its window may stand there.
+    fn is_next(&self, from: u32, class: u32, stamp: Stamp, window: &Window, port: u32) -> bool
+        ensures { result ≡ sent_on self.now.hub self.now.clp.bound from class stamp window.now port }
+    {
+        from != port
+            && self
+                .bound
+                .may_hold(self.place_of(port), class, stamp, window)
+    }
+
+    // The tree port of that place.
+    fn port_at(&self, at: usize) -> u32
+        requires { at < length self.now.hub.ports }
+        ensures { result ≡ get_or self.now.hub.ports at 0 }
+    {
+        self.ports.as_slice()[at]
+    }
+
+    // The tree ports are told of it, in order, but for one that is passed over.
+    fn tell(
+        &mut self,
+        alloc: Global,
+        class: u32,
+        from: Stamp,
+        until: Option<Stamp>,
+        window: Window,
+        skip: Option<u32>,
+        out: &mut List<Sent>,
+    ) -> Result<(), Memory>
+        requires { is_inverted window ≡ false }
+        ensures { OnOk result (Did self.old self.new out.old out.new
+            (tell self.old.hub class from until window (others skip self.old.hub.ports))) }
+    {
+        for at in 0..self.ports.len() {
+            let port = self.port_at(at);
+            if skip != Some(port) {
+                self.tell_one(alloc, class, from, until, window, port, out)?;
+            }
+        }
+        Ok(())
+    }
+
+    // They are told of the value of a period that has a begin.
+    fn tell_period(
+        &mut self,
+        alloc: Global,
+        class: u32,
+        period: Period,
+        out: &mut List<Sent>,
+    ) -> Result<(), Memory>
+        ensures { OnOk result (Did self.old self.new out.old out.new
+            (tell_from self.old.hub class period.when.from period)) }
+    {
+        match period.when.from {
+            None => Ok(()),
+            Some(from) => {
+                let window = Window::point(period.value);
+                self.tell(alloc, class, from, period.when.until, window, None, out)
+            }
+        }
+    }
+
+    // And of each of these periods, in order.
+    fn tell_periods(
+        &mut self,
+        alloc: Global,
+        class: u32,
+        periods: &[Period],
+        out: &mut List<Sent>,
+    ) -> Result<(), Memory>
+        ensures { OnOk result (Did self.old self.new out.old out.new
+            (tell_periods self.old.hub class periods.now)) }
+    {
+        for period in periods {
+            self.tell_period(alloc, class, *period, out)?;
+        }
+        Ok(())
+    }
+
+    // They are told what the variable is after the stamp.
+    fn telling(
+        &mut self,
+        alloc: Global,
+        var: u32,
+        from: Stamp,
+        out: &mut List<Sent>,
+    ) -> Result<(), Memory>
+        requires { var < var_count self.old.hub.classes }
+        ensures { OnOk result (Did self.old self.new out.old out.new (telling self.old.hub var from)) }
+    {
+        let class = self.layout.class_of(var);
+        let periods = self.records.periods(alloc, var, Some(from))?;
+        self.tell_periods(alloc, class, periods.as_slice(), out)
+    }
+
+    // A record that was taken off is sent to the port, whose bound grows by all its periods.
+    fn send_off(
+        &mut self,
+        alloc: Global,
+        var: u32,
+        port: u32,
+        held: VarRecord,
+        out: &mut List<Sent>,
+    ) -> Result<(), Memory>
+        requires exists { var < var_count self.old.hub.classes }
+        requires here { way_at self.old.clp.routing var ≡ Some way.Here }
+        ensures { OnOk result (Did self.old self.new out.old out.new (sent_off self.old.hub var port held.parts)) }
+    {
+        let class = self.layout.class_of(var);
+        let place = self.place_of(port);
+        let periods = held.periods_from(alloc, None)?;
+        self.bound
+            .grow_periods(alloc, place, class, periods.as_slice())?;
+        self.routes.leave(var, port);
+        let floor = floor_of(&self.line);
+        let parts = held.into_parts(alloc)?;
+        out.push(Sent {
+            to: port,
+            message: Message::Move { var, floor, parts },
+        })
+    }
+
+    // Each record here of the class's members takes the read.
+    fn watch_class(
+        &mut self,
+        alloc: Global,
+        num: Num,
+        stamp: Stamp,
+        window: Window,
+        row: ClassRow,
+        out: &mut List<Sent>,
+    ) -> Result<(), Memory>
+        requires { row.first + row.count < 2 ^ 32 }
+        ensures { OnOk result (Did self.old self.new out.old out.new
+            (watch_all self.old.hub num stamp window row.first row.count)) }
+    {
+        for k in 0..row.count {
+            self.record_watch(alloc, row.first + k, num, stamp, window, out)?;
+        }
+        Ok(())
+    }
+
+    // The ports to which the query goes on.
+    fn next_ports(
+        &self,
+        alloc: Global,
+        from: u32,
+        class: u32,
+        stamp: Stamp,
+        window: Window,
+    ) -> Result<List<u32>, Memory>
+        ensures { IfOk result (λ ports. ports ≡
+            filter (sent_on self.now.hub self.now.clp.bound from class stamp window) self.now.hub.ports) }
+    {
+        let mut ports = List::new(alloc);
+        for at in 0..self.ports.len() {
+            let port = self.port_at(at);
+            let is_next = self.is_next(from, class, stamp, &window, port);
+            add_if(is_next, port, &mut ports)?;
+        }
+        Ok(ports)
+    }
+
+    // A hit goes on towards its agent.
+    fn on_give(&mut self, row: GiveRow, out: &mut List<Sent>) -> Result<(), Memory>
+        ensures { OnOk result (Did self.old self.new out.old out.new
+            (λ s. record { clp = s; sent = to_agent self.old.hub row ∷ [] })) }
+    {
+        send_give(&self.to_agents, row, out)
+    }
+
+    // More may stand behind the port.
+    fn grow_bound(
+        &mut self,
+        alloc: Global,
+        port: u32,
+        class: u32,
+        when: Interval,
+        window: Window,
+    ) -> Result<(), Memory>
+        requires { is_inverted window ≡ false }
+        ensures { OnOk result (self.new ≡ record self.old {
+          clp = grow_bound self.old.hub port class when window self.old.clp;
+        }) }
+    {
+        let place = self.place_of(port);
+        self.bound.grow(alloc, place, class, when, window)?;
+        Ok(())
+    }
+}
+
+fn push_if(is_sent: bool, to: u32, message: Message, out: &mut List<Sent>) -> Result<(), Memory>
+    ensures { OnOk result (out.new ≡ out.old ++ sent_if is_sent to message) }
+{
+    if is_sent {
+        out.push(Sent { to, message })
+    } else {
+        Ok(())
+    }
+}
+
+fn add_if(is_next: bool, port: u32, ports: &mut List<u32>) -> Result<(), Memory>
+    ensures { OnOk result (ports.new ≡ (if is_next then ports.old ++ port ∷ [] else ports.old)) }
+{
+    if is_next { ports.push(port) } else { Ok(()) }
+}
+
+// The stamp of the line.
+fn floor_of(line: &Line) -> Stamp
+    ensures { result ≡ floor_of line.now }
+{
+    match line {
+        Line::At(stamp) => *stamp,
+        Line::End => Stamp { time: 0, agent: 0 },
+    }
+}
