@@ -6,3 +6,4 @@ pub mod Caught
 pub mod Layouts
 pub mod Calls
 pub mod Registers
+pub mod Kept

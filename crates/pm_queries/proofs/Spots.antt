@@ -8,7 +8,7 @@ use Rattle.pm_base.specs.Stamps.{is_below, num_eq}
 use Rattle.pm_base.specs.declared.stamp.Line.{Line}
 use Rattle.pm_base.specs.declared.stamp.Num.{Num}
 use Rattle.pm_base.specs.declared.stamp.Stamp.{Stamp}
-use Rattle.pm_periods.specs.Rows.{AreDistinct, has_num, key_lt}
+use Rattle.pm_periods.specs.Rows.{AreDistinct, IsInOrder, has_num, key_lt}
 use Rattle.pm_periods.specs.declared.rows.RowKey.{RowKey}
 use Rattle.pm_periods.proofs.Ordered.{has_num_less}
 use Rattle.pm_periods.proofs.Keys.{num_eq-flip, num_eq-same}
@@ -159,6 +159,21 @@ same-rising [] [] a r = tt
 same-rising [] (y ∷ ys) a r = absurd a
 same-rising (x ∷ xs) [] a r = tt
 same-rising (x ∷ xs) (y ∷ ys) a r = (same_above x y xs ys a.0 a.1 r.0, same-rising xs ys a.1 r.1)
+
+same_lower : (x y : Registered) (xs ys : List Registered)
+    → IsSame x y → SameRows xs ys → AllByRecursion (λ z. lt z x ≡ false) xs → AllByRecursion (λ z. lt z y ≡ false) ys
+same_lower x y [] [] h a r = tt
+same_lower x y [] (w ∷ ys) h a r = absurd a
+same_lower x y (z ∷ xs) [] h a r = tt
+same_lower x y (z ∷ xs) (w ∷ ys) h a r =
+    (sym (ap₂ (λ k l. key_lt k l) a.0.key h.key) ∙ r.0, same_lower x y xs ys h a.1 r.1)
+
+pub same-in_order : (xs ys : List Registered)
+    → SameRows xs ys → IsInOrder registered_key xs → IsInOrder registered_key ys
+same-in_order [] [] a r = tt
+same-in_order [] (y ∷ ys) a r = absurd a
+same-in_order (x ∷ xs) [] a r = tt
+same-in_order (x ∷ xs) (y ∷ ys) a r = (same_lower x y xs ys a.0 a.1 r.0, same-in_order xs ys a.1 r.1)
 
 same_class : (k : ℕ) (xs ys : List Registered) → SameRows xs ys
     → AllByRecursion (λ (r : Registered). r.class ≡ k) xs → AllByRecursion (λ (r : Registered). r.class ≡ k) ys

@@ -2,9 +2,11 @@
 #![tactic(auto)]
 
 mod class_rows;
+mod laws;
 mod ports;
 mod queries;
 mod registered;
 
+pub use laws::registers_are_kept;
 pub use queries::Queries;
 pub use registered::{Registered, Sent};

@@ -19,14 +19,14 @@ first_none test ways values i m b =
 pub first_more : (test : Way → Bool) (ways : List Way)
     (values : List Value) (i k m : ℕ) (b next all : Known) (y : Way) (there : Bool) (v : Value) → k < m
     → grown_first test ways values (i + k) (m - k) b ≡ all
-        → y ≡ get_or ways (i + k) way.Here → there ≡ test y → v ≡ get_or values (i + k) no_value
+    → y ≡ get_or ways (i + k) way.Here → there ≡ test y → v ≡ get_or values (i + k) no_value
     → next ≡ (if there then grown always (point_of v) b else b)
-        → grown_first test ways values (i + (k + 1)) (m - (k + 1)) next ≡ all
+    → grown_first test ways values (i + (k + 1)) (m - (k + 1)) next ≡ all
 first_more test ways values i k m b next all y there v lt so_far at told value is =
     let left : m - k ≡ suc (m - (k + 1)) = omega arith in
     let up : suc (i + k) ≡ i + (k + 1) = omega arith in
     let one : next ≡ (if test (get_or ways (i + k) way.Here)
-        then grown always (point_of (get_or values (i + k) no_value)) b else b) =
+    then grown always (point_of (get_or values (i + k) no_value)) b else b) =
     is ∙ ap₂ (λ c u. if c then grown always (point_of u) b else b) (told ∙ ap test at) value in
     ap (λ j. grown_first test ways values j (m - (k + 1)) next) (sym up)
     ∙ (ap (grown_first test ways values (suc (i + k)) (m - (k + 1))) one

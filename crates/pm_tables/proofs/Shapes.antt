@@ -24,7 +24,7 @@ not_false false e = absurd (false≢true e)
 pub grew_same : {E : Type 0} (r : Result Bool E)
     (row now : List Known) (k : ℕ) (old new : Known) (when : Interval) (w : Window) → row ≡ now → old ≡ get_or row k old
     → OnOk r (new ≡ grown when w old)
-        → IfOk r (λ grew. grew ≡ not (covers old when w)) → IfOk r (λ grew. grew ≡ false → set row k new ≡ now)
+    → IfOk r (λ grew. grew ≡ not (covers old when w)) → IfOk r (λ grew. grew ≡ false → set row k new ≡ now)
 grew_same (Err e) row now k old new when w same at is told = tt
 grew_same (Ok grew) row now k old new when w same at is told = λ none.
     ap (set row k) (is ∙ (grown_same old when w (not_false _ (sym none ∙ told)) ∙ at)) ∙ (set-get_or row k old ∙ same)
@@ -49,10 +49,10 @@ row-grow_in place k i when w b =
     elim (cases_eq i place) [
       | inl e ↦ subst (λ j. length (get_or (grow_in place k when w b) j []) ≡ length (get_or b j []))
           (sym e) (elim (cases_lt place (length b)) [
-        | inl lt ↦ ap length (get_or-set_same b place row [] lt)
-            ∙ length-set (get_or b place []) k (grown when w (known_in place k b))
-        | inr le ↦ ap (λ z. length (get_or z place [])) (set_past b place row le)
-      ])
+            | inl lt ↦ ap length (get_or-set_same b place row [] lt)
+                ∙ length-set (get_or b place []) k (grown when w (known_in place k b))
+            | inr le ↦ ap (λ z. length (get_or z place [])) (set_past b place row le)
+          ])
       | inr n ↦ ap length (get_or-set_other b place i row [] n)
     ]
 
@@ -68,7 +68,7 @@ pub grow_periods_in-ok : (ports classes place k : ℕ) (rs : List Period) (b : L
 grow_periods_in-ok ports classes place k [] b ok = ok
 grow_periods_in-ok ports classes place k (r ∷ rs) b ok =
     grow_periods_in-ok ports classes place k rs
-        (grow_in place k r.when (point_of r.value) b) (grow_in-ok ports classes place k r.when (point_of r.value) b ok)
+    (grow_in place k r.when (point_of r.value) b) (grow_in-ok ports classes place k r.when (point_of r.value) b ok)
 
 -- growing at a port is growing at its place
 pub grow_periods-in : (ports : List ℕ) (d k : ℕ) (rs : List Period) (b : List (List Known))

@@ -10,4 +10,4 @@ loop-port-preserved c =
     c.in_ok-push.ensures.items
     ∙ (ap₂ (λ rows row. rows ++ row ∷ []) c.loop-port.invariant c.in_ok-first.ensures
     ∙ sym (ap (map f) (take_more c.args.ports.now i 0 c.loop-port-test.true)
-        ∙ map-append f (take i c.args.ports.now) (get_or c.args.ports.now i 0 ∷ [])))
+    ∙ map-append f (take i c.args.ports.now) (get_or c.args.ports.now i 0 ∷ [])))

@@ -11,4 +11,4 @@ returns-in-Some c =
     ap (λ o. unwrap_or o nothing_known) c.at.ensures
     ∙ (unwrap_or-slice_get c.in-Some.row.now c.args.class nothing_known
     ∙ ap (λ r. get_or r c.args.class nothing_known)
-        (here ∙ ap (λ t. get_or t c.args.place []) (c.deref.ensures.value ∙ c.self.view_is)))
+    (here ∙ ap (λ t. get_or t c.args.place []) (c.deref.ensures.value ∙ c.self.view_is)))
