@@ -4,5 +4,7 @@
 mod first;
 mod port_row;
 mod table;
+#[cfg(test)]
+mod tests;
 
 pub use table::Table;
