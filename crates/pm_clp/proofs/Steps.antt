@@ -1,4 +1,5 @@
 -- One action of a process after another.
+use Rattle.pm_queries.specs.declared.registered.Sent.{Sent}
 use Rattle.std.proofs.Common.{◌≡◌, ℕ, suc, ◌+◌, ◌<◌, ◌≤◌, Bool, true, false, List, [], ◌∷◌, ◌++◌, map, get_or, drop, length, Option, Some, None, Result, Ok, Err, refl, arith, ap, ap₂, sym, ◌∙◌, subst, append_assoc}
 use Rattle.std.specs.Result.{OnOk}
 use Rattle.std.proofs.lemmas.List.{append-nil}
@@ -12,7 +13,6 @@ use Rattle.pm_tables.proofs.Shapes.{grow_periods-in}
 use Rattle.pm_clp.specs.Clps.{Answered, ClpSends, ClpState, Hub, and_then, at_record, no_clp_sends, on_record, rec_at, to_agent}
 use Rattle.pm_clp.specs.Kept.{Kept, gives_after, kept_after, recs_after}
 use Rattle.pm_clp.specs.Views.{ClpView, Did, DidRaise, Leads}
-use Rattle.pm_clp.specs.declared.sent.Sent.{Sent}
 
 -- what follows from what a call promises where it succeeds
 pub on_ok : {X E : Type 0} (res : Result X E) {P Q : Type 0} → (P → Q) → OnOk res P → OnOk res Q

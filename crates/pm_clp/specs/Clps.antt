@@ -2,7 +2,7 @@
 use Rattle.std.specs.Prelude.{ℕ, zero, suc, ◌==◌, Bool, true, false, not, ◌&&◌, ◌||◌, if◌then◌else◌}
 use Rattle.std.specs.Prelude.{List, [], ◌∷◌, ◌++◌, map, filter, get_or, set, Option, Some, None, pos}
 use Rattle.pm_base.specs.Layouts.{class_of, class_row}
-use Rattle.pm_base.specs.Stamps.{is_below, num_eq}
+use Rattle.pm_base.specs.Stamps.{is_below}
 use Rattle.pm_base.specs.Windows.{point_of, whole}
 use Rattle.pm_base.specs.declared.layout.ClassRow.{ClassRow}
 use Rattle.pm_base.specs.declared.rows.CutRow.{CutRow}
@@ -26,15 +26,14 @@ use Rattle.pm_periods.specs.Periods.{periods_from}
 use Rattle.pm_periods.specs.Records.{after_cut, after_put, after_watch, cut_row, first_read, gives_of_cut, gives_of_put}
 use Rattle.pm_periods.specs.Records.{gives_of_watch, settled}
 use Rattle.pm_periods.specs.Records as records
-use Rattle.pm_periods.specs.Rows.{key_lt}
-use Rattle.pm_periods.specs.declared.rows.RowKey.{RowKey}
 use Rattle.pm_ranges.specs.Known.{Known, covers}
 use Rattle.pm_routes.specs.Routings.{Routing, arrived, counted, first_routing, is_drawn, left, place_of}
 use Rattle.pm_routes.specs.declared.way.Way.{Way}
 use Rattle.pm_routes.specs.declared.way.Way.TheVariants as way
 use Rattle.pm_tables.specs.Tables.{bounds_trim, first_bound, first_told, grow_at, grow_periods, known_at, may_hold}
-use Rattle.pm_clp.specs.declared.sent.Registered.{Registered}
-use Rattle.pm_clp.specs.declared.sent.Sent.{Sent}
+use Rattle.pm_queries.specs.Queries.{add_reg, ask_of, finish_in, has, has_reg, without}
+use Rattle.pm_queries.specs.declared.registered.Registered.{Registered}
+use Rattle.pm_queries.specs.declared.registered.Sent.{Sent}
 
 -- what a communication process knows of its place: its tree ports, ascending, the process towards each agent, and the
 -- classes
@@ -74,29 +73,6 @@ rec_at rs v = get_or rs v None
 abbrev pub way_of : ℕ → ClpState → Way
 way_of v s = get_or s.routing.ways v way.Here
 
--- the number is one of these
-abbrev pub has : ℕ → List ℕ → Bool
-has d [] = false
-has d (x ∷ xs) = d == x || has d xs
-
--- where a registered query stands: by its stamp, then by its number
-abbrev pub registered_key : Registered → RowKey
-registered_key r = record { stamp = r.stamp; num = r.num }
-
--- a query of that number is registered
-abbrev pub has_reg : Num → List Registered → Bool
-has_reg n [] = false
-has_reg n (r ∷ rs) = num_eq n r.num || has_reg n rs
-
--- the query in its place among those registered
-abbrev pub add_reg : Registered → List Registered → List Registered
-add_reg r [] = r ∷ []
-add_reg r (x ∷ xs) = if key_lt (registered_key r) (registered_key x) then r ∷ (x ∷ xs) else x ∷ add_reg r xs
-
--- the query as it is sent on
-abbrev pub ask_of : Registered → Message
-ask_of r = message.Ask r.num r.stamp (query.Class r.class r.window)
-
 -- a record after a letter, and the hits that it gives
 pub record Answered : Type 0 where
   pub rec : Parts
@@ -122,34 +98,6 @@ put_row n t c = record { num = n; stamp = t; change = c }
 abbrev pub floor_of : Line → Stamp
 floor_of (line.At s) = s
 floor_of line.End = record { time = 0; agent = 0 }
-
--- these ports but for one
-abbrev pub without : ℕ → List ℕ → List ℕ
-without d ds = filter (λ e. not (d == e)) ds
-
--- the registered queries after a Finish, and what is sent
-pub record Ended : Type 0 where
-  pub queries : List Registered
-  pub sent : List Sent
-
--- with a query in front that the Finish does not name
-abbrev pub behind_reg : Registered → Ended → Ended
-behind_reg r e = record e { queries = r ∷ e.queries }
-
--- a query that waits for no port any more sends Finish to where it came from
-abbrev pub finish_if : List ℕ → Registered → List Sent
-finish_if [] r = record { to = r.from; message = message.Finish r.num r.stamp } ∷ []
-finish_if (d ∷ ds) r = []
-
--- a query that waited for the port waits for it no more, any other stays as it is
-abbrev pub finish_one : ℕ → Registered → List Registered → Bool → Ended
-finish_one d r rs true = record { queries = record r { waits = without d r.waits } ∷ rs; sent = finish_if (without d r.waits) r }
-finish_one d r rs false = record { queries = r ∷ rs; sent = [] }
-
--- the query of that number waits for the port no more
-abbrev pub finish_in : Num → ℕ → List Registered → Ended
-finish_in n d [] = record { queries = []; sent = [] }
-finish_in n d (r ∷ rs) = if num_eq n r.num then finish_one d r rs (has d r.waits) else behind_reg r (finish_in n d rs)
 
 -- a Finish takes its port off, and goes on where no other port is waited for
 abbrev pub after_finish : ℕ → Num → ClpState → ClpSends

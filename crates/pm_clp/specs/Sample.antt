@@ -1,5 +1,6 @@
 -- Worked rows: what a process with two tree ports, 0 and 5, does with single messages. Agent 0 is at home here, as
 -- process 9; agent 1 is behind port 0. Class 0 has one variable or two, class 1 has none.
+use Rattle.pm_queries.specs.declared.registered.Sent.{Sent}
 use Rattle.std.specs.Prelude.{ℕ, ◌≡◌, true, List, [], ◌∷◌, pos, Option, Some, None}
 use Rattle.pm_base.specs.Windows.{point_of, whole}
 use Rattle.pm_base.specs.declared.layout.ClassRow.{ClassRow}
@@ -17,7 +18,6 @@ use Rattle.pm_message.specs.declared.Message.TheVariants as message
 use Rattle.pm_routes.specs.declared.way.Way.{Way}
 use Rattle.pm_routes.specs.declared.way.Way.TheVariants as way
 use Rattle.pm_clp.specs.Clps.{ClpSends, ClpState, Hub, clp_after, first_clp}
-use Rattle.pm_clp.specs.declared.sent.Sent.{Sent}
 
 -- the moment of this time and agent
 abbrev pub at : ℕ → ℕ → Stamp

@@ -1,4 +1,5 @@
 -- Which messages a communication process takes: those that can stand in a link to it.
+use Rattle.pm_queries.specs.Queries.{has}
 use Rattle.std.specs.Prelude.{ℕ, ◌^◌, Bool, true, false, not, ◌&&◌, ◌||◌, nat_lt, length}
 use Rattle.std.specs.List.{list_all}
 use Rattle.pm_base.specs.Layouts.{var_count}
@@ -16,7 +17,7 @@ use Rattle.pm_message.specs.declared.Message.{Message}
 use Rattle.pm_message.specs.declared.Message.TheVariants as message
 use Rattle.pm_routes.specs.declared.way.Way.{Way}
 use Rattle.pm_routes.specs.declared.way.Way.TheVariants as way
-use Rattle.pm_clp.specs.Clps.{ClpState, Hub, has, way_of}
+use Rattle.pm_clp.specs.Clps.{ClpState, Hub, way_of}
 
 -- the number's agent exists
 abbrev pub has_agent : Hub → Num → Bool

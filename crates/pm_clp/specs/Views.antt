@@ -1,4 +1,7 @@
 -- What contracts see of a communication process.
+use Rattle.pm_queries.specs.declared.registered.Sent.{Sent}
+use Rattle.pm_queries.specs.declared.registered.Registered.{Registered}
+use Rattle.pm_queries.specs.Queries.{without}
 use Rattle.std.specs.Prelude.{ℕ, ◌+◌, ◌^◌, ◌≤◌, ◌≡◌, suc, Bool, true, false, List, [], ◌∷◌, ◌++◌, length, get_or, Option, Some, None}
 use Rattle.pm_base.specs.Layouts.{IsLayout, var_count}
 use Rattle.pm_base.specs.declared.layout.ClassRow.{ClassRow}
@@ -12,10 +15,8 @@ use Rattle.pm_ranges.specs.Known.{Known}
 use Rattle.pm_periods.specs.Periods.{periods_from}
 use Rattle.pm_routes.specs.Routings.{Routing, left}
 use Rattle.pm_tables.specs.Tables.{grow_periods}
-use Rattle.pm_clp.specs.Clps.{ClpSends, ClpState, Hub, class_at, floor_of, leaves, rec_at, without}
+use Rattle.pm_clp.specs.Clps.{ClpSends, ClpState, Hub, class_at, floor_of, leaves, rec_at}
 use Rattle.pm_clp.specs.Kept.{Kept}
-use Rattle.pm_clp.specs.declared.sent.Registered.{Registered}
-use Rattle.pm_clp.specs.declared.sent.Sent.{Sent}
 
 -- what it knows of its place, what it keeps, a number that no turn of a read is above, how many deliveries were made,
 -- and whether memory was wanting in one of them

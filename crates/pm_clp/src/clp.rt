@@ -11,13 +11,13 @@ ghost use Rattle.pm_routes.specs.declared.way.Way.TheVariants as way;
 ghost use Rattle.pm_clp.specs.Views.{Did, DidRaise, give_to, others, sent_if, sent_off};
 
 use crate::records::Records;
-use crate::sent::{Registered, Sent};
 use pm_base::{
     ClassRow, CutRow, GiveRow, Interval, Layout, Line, List, Memory, Num, Period, PutRow, Stamp,
     Window,
 };
 use pm_message::Message;
 use pm_periods::VarRecord;
+use pm_queries::{Queries, Sent};
 use pm_routes::{Routes, Way};
 use pm_tables::Table;
 use std::alloc::Global;
@@ -32,7 +32,7 @@ pub struct Clp {
     records: Records,
     routes: Routes,
     line: Line,
-    queries: List<Registered>,
+    queries: Queries,
     bound: Table,
     told: Table,
     made: u64,

@@ -5,7 +5,6 @@
 mod clp;
 mod laws;
 mod records;
-mod sent;
 
 pub use laws::{no_wake_is_taken, sample_moves, sample_writes};
-pub use sent::{Registered, Sent};
+pub use pm_queries::{Registered, Sent};

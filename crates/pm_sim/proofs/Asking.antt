@@ -1,8 +1,9 @@
 -- What each event of a CLP keeps of its registered queries.
+use Rattle.pm_queries.specs.Queries.{has_reg, ask_of, has}
+use Rattle.pm_queries.specs.declared.registered.Registered.{Registered}
 use Rattle.pm_tables.specs.Tables.{may_hold, meets_at, known_at}
-use Rattle.pm_clp.specs.declared.sent.Registered.{Registered}
 use Rattle.std.proofs.lemmas.Bool.Decides.{nat_tests}
-use Rattle.pm_clp.specs.Clps.{caught, catches, ClpState, has_reg, ask_of, rec_at, has}
+use Rattle.pm_clp.specs.Clps.{caught, catches, ClpState, rec_at}
 use Rattle.pm_ranges.specs.Known.{Known, bound_at}
 use Rattle.pm_sim.proofs.Sides.{eq_self}
 use Rattle.pm_sim.proofs.Places.{process_clp}

@@ -1,8 +1,9 @@
 -- Catching up at a port: registered queries are sent there late, and what is kept of queries stays.
+use Rattle.pm_queries.specs.Queries.{has, has_reg, ask_of}
+use Rattle.pm_queries.specs.declared.registered.Registered.{Registered}
 use Rattle.pm_tables.specs.Tables.{may_hold}
 use Rattle.pm_base.specs.Stamps.{num_eq}
-use Rattle.pm_clp.specs.declared.sent.Registered.{Registered}
-use Rattle.pm_clp.specs.Clps.{caught, catches, catch_up, has, ClpState, has_reg, ask_of}
+use Rattle.pm_clp.specs.Clps.{caught, catches, catch_up, ClpState}
 use Rattle.pm_ranges.specs.Known.{Known}
 use Rattle.pm_sim.proofs.Places.{process_clp, lift, HubSends, clp_at, queries_at, Sim}
 use Rattle.pm_sim.specs.Worlds.{hub_of, process, ports, posted, Mail, Posted, Process, World, home, mail, clps_of}

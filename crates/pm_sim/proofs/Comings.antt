@@ -1,10 +1,11 @@
 -- A record comes to a CLP.
+use Rattle.pm_queries.specs.Queries.{ask_of}
+use Rattle.pm_queries.specs.declared.registered.Sent.{Sent}
+use Rattle.pm_queries.specs.declared.registered.Registered.{Registered}
 use Rattle.pm_tables.specs.Tables.{grow_periods}
 use Rattle.pm_alp.specs.declared.agent.Agent.{Agent}
 use Rattle.pm_sim.proofs.Forwards.{letters_posted}
-use Rattle.pm_clp.specs.declared.sent.Registered.{Registered}
-use Rattle.pm_clp.specs.declared.sent.Sent.{Sent}
-use Rattle.pm_clp.specs.Clps.{and_then, ClpSends, to_agent, watch_if, Answered, ClpState, ask_of, rec_at, take_watch, on_record, at_record, clp_after}
+use Rattle.pm_clp.specs.Clps.{and_then, ClpSends, to_agent, watch_if, Answered, ClpState, rec_at, take_watch, on_record, at_record, clp_after}
 use Rattle.pm_sim.proofs.Places.{HubSends, lift, to_agent_of, clp_at, Sim, in_range, set_rec, set_here, set_there, landed, mail_in, clp_here, clp_there, fits_after, pend_of, wait_of, plain_queries, plain_hopes, toward_fits, bag}
 use Rattle.pm_routes.specs.Routings.{Routing, arrived}
 use Rattle.pm_sim.specs.Worlds.{number, hub_of, posted, ports, Mail, Posted, Process, Taken, World, mail, take_from, clps_of}

@@ -1,5 +1,8 @@
 -- What a CLP sends goes over its own links: to a tree port, to where a message came from, or towards an agent; and what
 -- it names exists.
+use Rattle.pm_queries.specs.declared.registered.Sent.{Sent}
+use Rattle.pm_queries.specs.declared.registered.Registered.{Registered}
+use Rattle.pm_queries.specs.Queries.{ask_of, behind_reg, finish_if, finish_in, finish_one, has_reg, without}
 use Rattle.std.proofs.Common.{Bool, List, None, Option, Some, [], ap, arith, false, filter, get_or, get_or-set_other, get_or-set_same, inl, inr, length, length-set, map, not, refl, set, subst, suc, sym, true, zero, ℕ, ℤ, ◌&&◌, ◌++◌, ◌+◌, ◌<◌, ◌==◌, ◌∙◌, ◌∷◌, ◌≡◌, ◌≤◌, ◌⊎◌}
 use Rattle.std.proofs.lemmas.Bool.{and_parts, cases_eq, cond_both}
 use Rattle.std.proofs.lemmas.Bool.Decides.{nat_tests}
@@ -29,9 +32,7 @@ use Rattle.pm_ranges.specs.Known.{covers}
 use Rattle.pm_routes.specs.Routings.{counted, is_drawn}
 use Rattle.pm_routes.specs.declared.way.Way.{Way}
 use Rattle.pm_tables.specs.Tables.{grow_at, known_at}
-use Rattle.pm_clp.specs.Clps.{Answered, ClpSends, ClpState, Hub, and_then, ask_of, at_record, behind_reg, catches, catching, clp_after, counting, finish_if, finish_in, finish_one, floor_of, forwards, grow_bound, has_reg, installed, leaves, leaving, no_clp_sends, on_record, on_way, queries_watch, rec_at, reg_of, registered, sent_on, take_cut, take_put, take_watch, tell, tell_from, tell_one, tell_periods, tell_record, telling, to_agent, watch_all, watch_if, way_of, with_count, without}
-use Rattle.pm_clp.specs.declared.sent.Registered.{Registered}
-use Rattle.pm_clp.specs.declared.sent.Sent.{Sent}
+use Rattle.pm_clp.specs.Clps.{Answered, ClpSends, ClpState, Hub, and_then, at_record, catches, catching, clp_after, counting, floor_of, forwards, grow_bound, installed, leaves, leaving, no_clp_sends, on_record, on_way, queries_watch, rec_at, reg_of, registered, sent_on, take_cut, take_put, take_watch, tell, tell_from, tell_one, tell_periods, tell_record, telling, to_agent, watch_all, watch_if, way_of, with_count}
 use Rattle.pm_sim.proofs.Letters.{in_map}
 use Rattle.pm_sim.proofs.Lists.{in_cases}
 use Rattle.pm_sim.proofs.Places.{in_range}

@@ -1,7 +1,8 @@
 -- The Finish of a class query at a CLP, a Commit, and why a query that waits has a letter on its way.
+use Rattle.pm_queries.specs.Queries.{has_reg, ask_of, finish_if, finish_one, finish_in, without, has}
+use Rattle.pm_queries.specs.declared.registered.Registered.{Registered}
+use Rattle.pm_queries.specs.declared.registered.Sent.{Sent}
 use Rattle.pm_base.specs.Stamps.{num_eq}
-use Rattle.pm_clp.specs.declared.sent.Sent.{Sent}
-use Rattle.pm_clp.specs.declared.sent.Registered.{Registered}
 use Rattle.std.proofs.Common.{◌≡◌, ℕ, zero, suc, ◌+◌, ◌<◌, ◌≤◌, ◌⊎◌, inl, inr, ◌==◌, Bool, true, false, not, ◌&&◌, ◌||◌, List, [], ◌∷◌, filter, refl, arith, ap, sym, ◌∙◌, subst, subst₂}
 use Rattle.std.proofs.lemmas.Bool.{cases_Bool, cond_both, cases_eq, or_parts}
 use Rattle.std.proofs.lemmas.Bool.Decides.{nat_tests}
@@ -15,7 +16,6 @@ use Rattle.pm_message.specs.declared.Message.{Message}
 use Rattle.pm_plan.specs.Plans.{parents}
 use Rattle.pm_plan.specs.Trees.{hop}
 use Rattle.pm_plan.specs.declared.plan.Plan.{Plan}
-use Rattle.pm_clp.specs.Clps.{has_reg, ask_of, finish_if, finish_one, finish_in, without, has}
 use Rattle.pm_sim.specs.Worlds.{Mail, Process, home, clps_of, ports, process}
 use Rattle.pm_sim.specs.Worlds.Process.{AtClp, AtAgent}
 use Rattle.pm_sim.specs.Sims.{In, MailOk, NotPast, is_past, num_of, one_if, tally}

@@ -1,5 +1,6 @@
 -- Why the tables are as they are: for each of eight faults a list of events that is legal with it, and that commits
 -- other entries than the sequential run's.
+use Rattle.pm_queries.specs.Queries.{has_reg}
 use Rattle.pm_saved.specs.declared.kept.KeptSense.{KeptSense}
 use Rattle.pm_alp.specs.declared.agent.Agent.{Agent}
 use Rattle.pm_saved.specs.Steps.{withdrawn}
@@ -29,7 +30,7 @@ use Rattle.pm_periods.specs.Records.{after_put, settled, cut_row}
 use Rattle.pm_periods.specs.Records as records
 use Rattle.pm_plan.specs.declared.plan.Plan.{Plan}
 use Rattle.pm_alp.specs.Agents.{Actor, Sends, agent_after, at_open, first_sends, go_on, kept_in, no_sends}
-use Rattle.pm_clp.specs.Clps.{Answered, ClpSends, ClpState, Hub, and_then, at_record, clp_after, clp_committed, has_reg, installed, no_clp_sends, on_way, registered_at, sent_on, take_cut, telling, watch_all, way_of}
+use Rattle.pm_clp.specs.Clps.{Answered, ClpSends, ClpState, Hub, and_then, at_record, clp_after, clp_committed, installed, no_clp_sends, on_way, registered_at, sent_on, take_cut, telling, watch_all, way_of}
 use Rattle.pm_sim.specs.Worlds.{World, actor_of, first_world, line_le}
 use Rattle.pm_sim.specs.Sims.{has_put}
 use Rattle.pm_sim.specs.Samples.{agent, all_then_commit, choosing, deliveries, entry, hit, late_write, moving_query, overtaken_cut, plan, read, root, root_and_left, scan, set_to, var, withdrawn_write, write}

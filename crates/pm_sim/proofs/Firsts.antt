@@ -1,10 +1,11 @@
 -- The whole fact holds in the first world.
+use Rattle.pm_queries.specs.Queries.{has_reg}
 use Rattle.std.specs.Prelude.{nat_le}
 use Rattle.pm_tables.specs.Tables.{no_value}
 use Rattle.pm_alp.specs.declared.agent.Awaited.{Awaited}
 use Rattle.pm_alp.specs.declared.agent.Agent.{Agent}
 use Rattle.pm_sim.specs.Routings.{stands_at, is_move, moves_var, Fits, NoTwiceReg, TreeOk, ask_to, mail_to}
-use Rattle.pm_clp.specs.Clps.{ClpState, has_reg, rec_at, first_record, first_records, first_parts}
+use Rattle.pm_clp.specs.Clps.{ClpState, rec_at, first_record, first_records, first_parts}
 use Rattle.pm_sim.proofs.Queries.{ask_is}
 use Rattle.std.proofs.lemmas.Bool.{cases_Bool, cases_eq}
 use Rattle.std.proofs.Common.{◌≡◌, ℕ, zero, suc, ◌+◌, ◌<◌, ◌≤◌, ◌⊎◌, inl, inr, ◌==◌, true, false, cond, List, [], ◌∷◌, ◌++◌, map, length, get_or, refl, arith, ap, sym, ◌∙◌, subst, subst₂, Option, Some, None, Bool}

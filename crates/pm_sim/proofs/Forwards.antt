@@ -1,8 +1,9 @@
 -- The forwards of a class query at a CLP: what is sent over its ports, or the end back.
+use Rattle.pm_queries.specs.Queries.{ask_of}
+use Rattle.pm_queries.specs.declared.registered.Registered.{Registered}
+use Rattle.pm_queries.specs.declared.registered.Sent.{Sent}
 use Rattle.pm_base.specs.Stamps.{num_eq}
-use Rattle.pm_clp.specs.declared.sent.Sent.{Sent}
-use Rattle.pm_clp.specs.declared.sent.Registered.{Registered}
-use Rattle.pm_clp.specs.Clps.{ask_of, forwards}
+use Rattle.pm_clp.specs.Clps.{forwards}
 use Rattle.pm_sim.proofs.Places.{process_clp, process_agent}
 use Rattle.std.proofs.lemmas.Bool.{cond_both, cases_eq}
 use Rattle.std.proofs.Common.{◌≡◌, ℕ, ◌<◌, ◌≤◌, ◌⊎◌, inl, inr, ◌==◌, Bool, true, false, ◌&&◌, List, [], ◌∷◌, map, filter, refl, arith, ap, sym, ◌∙◌, subst, ap₂}

@@ -1,13 +1,14 @@
 -- The whole fact at an agent's delivery and at a Commit.
+use Rattle.pm_queries.specs.Queries.{has_reg}
+use Rattle.pm_queries.specs.declared.registered.Registered.{Registered}
 use Rattle.pm_tables.specs.Tables.{known_at, bounds_trim, may_hold, meets_at, no_value, TableOk}
 use Rattle.pm_base.specs.Stamps.{num_eq}
-use Rattle.pm_clp.specs.declared.sent.Registered.{Registered}
 use Rattle.pm_sim.specs.Bounds.{CoveredAt, between, items, table_ok, BoundsOk}
 use Rattle.pm_ranges.specs.Fits.{Fits}
 use Rattle.pm_ranges.specs.Known.{Known, bound_at, nothing_known}
 use Rattle.pm_ranges.specs.Known as known
 use Rattle.pm_base.specs.Windows.{inside}
-use Rattle.pm_clp.specs.Clps.{ClpState, has_reg, rec_at, clp_committed, option_trim}
+use Rattle.pm_clp.specs.Clps.{ClpState, rec_at, clp_committed, option_trim}
 use Rattle.pm_sim.proofs.Locals.{after, bag}
 use Rattle.pm_routes.specs.Routings.{place_of}
 use Rattle.pm_sim.proofs.Ranges.{trim_fits, fits_trim, trim_bound}

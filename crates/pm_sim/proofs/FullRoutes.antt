@@ -1,13 +1,14 @@
 -- A CLP's further events, over the whole fact: what goes on, the end of a query, a class query, a Grow.
+use Rattle.pm_queries.specs.Queries.{finish_if, finish_one, without, has_reg, ask_of, add_reg, finish_in, has}
+use Rattle.pm_queries.specs.declared.registered.Registered.{Registered}
 use Rattle.pm_tables.specs.Tables.{known_at, may_hold, grow_at, TableOk}
 use Rattle.pm_base.specs.Stamps.{num_eq}
 use Rattle.pm_sim.proofs.Forwards.{out_is, fwd, fw, fwd_is, process_toward, fw_ask}
-use Rattle.pm_clp.specs.declared.sent.Registered.{Registered}
 use Rattle.pm_sim.specs.Bounds.{Item, tells, between, item_of, items, sent_to, table_ok, BoundsOk}
 use Rattle.pm_sim.specs.Bounds.Item.{Grows}
 use Rattle.pm_ranges.specs.Joins.{Row}
 use Rattle.pm_ranges.specs.Known.{Known, grown}
-use Rattle.pm_clp.specs.Clps.{catching, tell, caught, catches, finish_if, finish_one, without, ClpState, has_reg, ask_of, rec_at, add_reg, watch_all, forwards, registered, finish_in, sent_on, has, clp_after, ClpSends, no_clp_sends, and_then, after_finish}
+use Rattle.pm_clp.specs.Clps.{catching, tell, caught, catches, ClpState, rec_at, watch_all, forwards, registered, sent_on, clp_after, ClpSends, no_clp_sends, and_then, after_finish}
 use Rattle.pm_sim.specs.Covers.{AskedOk, Door}
 use Rattle.pm_sim.proofs.Sides.{Alike, tell_alike, tell_here, tell_else, grow_alike, side_same, side_else, eq_self, eq_not}
 use Rattle.pm_sim.proofs.Bounding.{bounds_plain, bounds_grow}

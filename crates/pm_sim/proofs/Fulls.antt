@@ -1,11 +1,12 @@
 -- The whole fact, and a CLP's events.
+use Rattle.pm_queries.specs.Queries.{has_reg}
 use Rattle.pm_tables.specs.Tables.{known_at}
 use Rattle.pm_base.specs.Stamps.{num_eq}
 use Rattle.pm_sim.specs.Bounds.{grow_all, Item, tells, between, item_of, items, sent_to, table_ok, BoundsOk}
 use Rattle.pm_sim.specs.Bounds.Item.{Grows, Moves}
 use Rattle.pm_ranges.specs.Joins.{AllIn}
 use Rattle.pm_base.specs.Windows.{inside}
-use Rattle.pm_clp.specs.Clps.{telling, tell_periods, tell_record, Answered, ClpState, has_reg, rec_at, take_put, take_cut, take_watch}
+use Rattle.pm_clp.specs.Clps.{telling, tell_periods, tell_record, Answered, ClpState, rec_at, take_put, take_cut, take_watch}
 use Rattle.pm_sim.proofs.Sides.{Alike, told_alike, periods_here, periods_else, EachBegins}
 use Rattle.pm_sim.proofs.Changes.{rows_from}
 use Rattle.pm_sim.proofs.Acts.{acts, acts_here, acts_there, acts_bag, Quiet, quiet_act, quiet_telling, periods_begin, class_low}

@@ -1,11 +1,12 @@
 -- A CLP's part of a delivery.
+use Rattle.pm_queries.specs.Queries.{without, has_reg, add_reg, finish_if, finish_in, has}
+use Rattle.pm_queries.specs.declared.registered.Registered.{Registered}
+use Rattle.pm_queries.specs.declared.registered.Sent.{Sent}
 use Rattle.pm_base.specs.Stamps.{num_eq}
 use Rattle.pm_sim.proofs.Forwards.{process_toward, map_twice, letters_posted, fwd, fwd_is, fw, fw_ask, fw_end, out_is, fw_is, fw_tally, filter_tally}
-use Rattle.pm_clp.specs.declared.sent.Sent.{Sent}
-use Rattle.pm_clp.specs.declared.sent.Registered.{Registered}
 use Rattle.pm_sim.proofs.Acts.{Quiet, acts, acts_then, quiet_act, quiet_tell, quiet_telling, class_low}
 use Rattle.pm_sim.proofs.Catches.{catch_act, late_sends, late_is}
-use Rattle.pm_clp.specs.Clps.{Hub, grow_bound, catching, tell, without, Answered, ClpState, has_reg, rec_at, take_put, take_cut, take_watch, add_reg, way_of, to_agent, on_record, at_record, on_way, watch_all, forwards, registered, finish_if, finish_in, telling, sent_on, has, ClpSends, no_clp_sends, and_then, after_finish, clp_after, counting}
+use Rattle.pm_clp.specs.Clps.{Hub, grow_bound, catching, tell, Answered, ClpState, rec_at, take_put, take_cut, take_watch, way_of, to_agent, on_record, at_record, on_way, watch_all, forwards, registered, telling, sent_on, ClpSends, no_clp_sends, and_then, after_finish, clp_after, counting}
 use Rattle.std.specs.Prelude.{Option, not}
 use Rattle.pm_sim.proofs.Places.{plain_queries, plain_hopes, in_range, hub_idle, hub_then, lift_then, clp_at, queries_at, Sim, HubSends, set_rec, set_here, set_there, places_same, landed, bag, mail_in, letter_in, clp_here, clp_there, pend_of, wait_of, build, forwarded, toward_fits, mailed, record_taken, lift, process_clp, to_agent_of}
 use Rattle.pm_sim.proofs.Queries.{add_reg_has, special, mail_same, ask_parts, clp_parts, toward_home, goes_plain, queries_plain, ask_goes, queries_ask}

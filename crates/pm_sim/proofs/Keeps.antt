@@ -1,4 +1,5 @@
 -- What is kept is not below the line: so after a Commit at End nothing is.
+use Rattle.pm_queries.specs.declared.registered.Registered.{Registered}
 use Rattle.std.proofs.Common.{List, None, Option, Some, [], ap, arith, get_or, inl, inr, length, refl, subst, suc, sym, true, ℕ, ◌∙◌, ◌∷◌, ◌≡◌}
 use Rattle.std.proofs.lemmas.Bool.{cases_lt}
 use Rattle.pm_base.specs.declared.rows.CutRow.{CutRow}
@@ -14,7 +15,6 @@ use Rattle.pm_saved.specs.declared.kept.KeptStep.{KeptStep}
 use Rattle.pm_alp.specs.Agents.{no_agent}
 use Rattle.pm_alp.specs.declared.agent.Agent.{Agent}
 use Rattle.pm_clp.specs.Clps.{ClpState, rec_at}
-use Rattle.pm_clp.specs.declared.sent.Registered.{Registered}
 use Rattle.pm_sim.proofs.Firsts.{PlanFits}
 use Rattle.pm_sim.proofs.Lines.{get_past}
 use Rattle.pm_sim.proofs.Places.{Sim, clp_at}

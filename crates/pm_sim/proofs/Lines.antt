@@ -1,6 +1,6 @@
 -- A Commit in the world.
+use Rattle.pm_queries.specs.declared.registered.Registered.{Registered}
 use Rattle.pm_alp.specs.declared.agent.Agent.{Agent}
-use Rattle.pm_clp.specs.declared.sent.Registered.{Registered}
 use Rattle.pm_sim.proofs.Queries.{reg_of}
 use Rattle.std.proofs.Common.{◌≡◌, ℕ, zero, suc, ◌<◌, ◌≤◌, ◌⊎◌, inl, inr, not, true, List, [], ◌∷◌, map, filter, length, get_or, refl, arith, ap, sym, ◌∙◌, subst, Option, Some, None, Bool, ◌||◌}
 use Rattle.std.proofs.lemmas.Bool.{cases_lt}

@@ -1,13 +1,14 @@
 -- What is kept of bounds and of registered queries where a record leaves a CLP and where it comes to one, from what is
 -- known of places.
+use Rattle.pm_queries.specs.Queries.{ask_of, has_reg}
+use Rattle.pm_queries.specs.declared.registered.Registered.{Registered}
+use Rattle.pm_queries.specs.declared.registered.Sent.{Sent}
 use Rattle.pm_tables.specs.Tables.{known_at, grow_periods, may_hold, TableOk}
-use Rattle.pm_clp.specs.declared.sent.Sent.{Sent}
-use Rattle.pm_clp.specs.declared.sent.Registered.{Registered}
 use Rattle.pm_sim.specs.Bounds.{between, item_of, items, sent_to, BoundsOk}
 use Rattle.pm_sim.specs.Bounds.Item.{Moves}
 use Rattle.pm_ranges.specs.Known.{Known}
 use Rattle.pm_base.specs.Windows.{inside}
-use Rattle.pm_clp.specs.Clps.{catches, ask_of, floor_of, watch_if, Answered, ClpState, has_reg, rec_at, take_watch, to_agent, on_record, at_record, leaves, catching, leaving, with_count, counting, and_then, ClpSends, clp_after, queries_watch}
+use Rattle.pm_clp.specs.Clps.{catches, floor_of, watch_if, Answered, ClpState, rec_at, take_watch, to_agent, on_record, at_record, leaves, catching, leaving, with_count, counting, and_then, ClpSends, clp_after, queries_watch}
 use Rattle.pm_sim.specs.Covers.{Placed, AskedOk, Door}
 use Rattle.pm_sim.proofs.Leavings.{gone_to, gone_is, left_sim}
 use Rattle.pm_sim.proofs.Sides.{Alike, periods_alike, side_periods, side_periods_else, eq_self, eq_not}

@@ -1,5 +1,5 @@
 -- The whole fact over the tree, and the CLP's simple events.
-use Rattle.pm_clp.specs.declared.sent.Registered.{Registered}
+use Rattle.pm_queries.specs.declared.registered.Registered.{Registered}
 use Rattle.std.proofs.Common.{◌≡◌, ℕ, zero, suc, ◌<◌, inl, inr, ◌==◌, true, false, cond, List, [], ◌∷◌, map, length, get_or, set, refl, arith, ap, sym, ◌∙◌, subst, Option, Some, None, get_or-set_other, get_or-set_same, length-set}
 use Rattle.std.proofs.lemmas.Bool.{cases_eq, cases_Bool}
 use Rattle.std.proofs.lemmas.Bool.Decides.{nat_tests}

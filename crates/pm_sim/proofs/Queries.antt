@@ -1,6 +1,7 @@
 -- Registered class queries: what each event does to them.
+use Rattle.pm_queries.specs.Queries.{has_reg, ask_of, add_reg, registered_key}
+use Rattle.pm_queries.specs.declared.registered.Registered.{Registered}
 use Rattle.pm_base.specs.Stamps.{num_eq}
-use Rattle.pm_clp.specs.declared.sent.Registered.{Registered}
 use Rattle.std.proofs.Common.{◌≡◌, ℕ, zero, suc, ◌+◌, ◌<◌, ◌≤◌, ◌⊎◌, inl, inr, ◌==◌, Bool, true, false, cond, ◌&&◌, ◌||◌, List, [], ◌∷◌, ◌++◌, refl, arith, ap, sym, ◌∙◌, subst, subst₂}
 use Rattle.std.proofs.lemmas.Bool.{cases_Bool, cond_both, cases_eq, and_parts, or_parts, or_cases}
 use Rattle.std.proofs.lemmas.Bool.Decides.{nat_tests}
@@ -13,7 +14,6 @@ use Rattle.pm_periods.specs.Rows.{key_lt}
 use Rattle.pm_plan.specs.Plans.{parents}
 use Rattle.pm_plan.specs.Trees.{hop}
 use Rattle.pm_plan.specs.declared.plan.Plan.{Plan}
-use Rattle.pm_clp.specs.Clps.{has_reg, ask_of, add_reg, registered_key}
 use Rattle.pm_sim.specs.Worlds.{Mail, Process, home, is_process, clps_of, ports, process}
 use Rattle.pm_sim.specs.Worlds.Process.{AtClp, AtAgent}
 use Rattle.pm_sim.specs.Sims.{In, NotPast, num_of, one_if, tally}

@@ -1,13 +1,14 @@
 -- Where nothing at or below a stamp is on the way: a query is found at each record that it may find something at.
+use Rattle.pm_queries.specs.Queries.{has, has_reg}
+use Rattle.pm_queries.specs.declared.registered.Registered.{Registered}
 use Rattle.pm_tables.specs.Tables.{may_hold, meets_at}
-use Rattle.pm_clp.specs.declared.sent.Registered.{Registered}
 use Rattle.pm_sim.specs.Bounds.{Net, GrowsFit, CoveredAt, between, item_of, items, net_of, BoundsOk}
 use Rattle.pm_sim.specs.Bounds.Item.{Grows, Moves}
 use Rattle.pm_ranges.specs.Fits.{Fits}
 use Rattle.pm_ranges.specs.Joins.{Small}
 use Rattle.pm_ranges.specs.Known.{Known, bound_at}
 use Rattle.pm_base.specs.Windows.{inside}
-use Rattle.pm_clp.specs.Clps.{has, has_reg, rec_at}
+use Rattle.pm_clp.specs.Clps.{rec_at}
 use Rattle.pm_sim.proofs.Ranges.{bound_none, bound_up, common_meets}
 use Rattle.std.proofs.lemmas.Int.{ints}
 use Rattle.std.proofs.lemmas.Bool.{and_parts, cases_Bool, cond_both, cases_eq}

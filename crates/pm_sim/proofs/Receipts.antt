@@ -1,4 +1,5 @@
 -- Every message in a link is one that its receiver takes.
+use Rattle.pm_queries.specs.Queries.{has}
 use Rattle.std.proofs.Common.{Bool, List, [], ap, arith, cond, false, get_or, inl, inr, length, nat_lt, not, refl, subst, suc, sym, true, zero, ℕ, ◌&&◌, ◌+◌, ◌<◌, ◌==◌, ◌^◌, ◌||◌, ◌∙◌, ◌∷◌, ◌≡◌, ◌≤◌, ◌⊎◌}
 use Rattle.std.proofs.lemmas.Bool.{and_from, cases_Bool}
 use Rattle.std.proofs.lemmas.Bool.Decides.{nat_tests}
@@ -22,7 +23,7 @@ use Rattle.pm_routes.specs.declared.way.Way.{Way}
 use Rattle.pm_plan.specs.declared.plan.AgentRow.{AgentRow}
 use Rattle.pm_plan.specs.declared.plan.Plan.{Plan}
 use Rattle.pm_model.specs.declared.State.{State}
-use Rattle.pm_clp.specs.Clps.{ClpState, Hub, has, rec_at, way_of}
+use Rattle.pm_clp.specs.Clps.{ClpState, Hub, rec_at, way_of}
 use Rattle.pm_clp.specs.Takes.{fits, has_agent, has_agents, has_class, has_low_turns, has_var, is_here, is_linked, is_port, takes}
 use Rattle.pm_sim.proofs.Awakes.{Awake, agent_letter, run_awake}
 use Rattle.pm_sim.proofs.ClassesIn.{AllKinds, InKinds, run_kinds}

@@ -1,6 +1,7 @@
 -- Tables of bounds, and telling at a port, seen at one side: what told becomes, and what is sent there.
+use Rattle.pm_queries.specs.Queries.{has}
+use Rattle.pm_queries.specs.declared.registered.Sent.{Sent}
 use Rattle.pm_tables.specs.Tables.{grow_at, grow_periods, known_at, TableOk}
-use Rattle.pm_clp.specs.declared.sent.Sent.{Sent}
 use Rattle.std.proofs.Common.{◌≡◌, ℕ, suc, ◌<◌, ◌≤◌, inl, inr, ◌==◌, Bool, true, false, cond, ◌||◌, List, [], ◌∷◌, ◌++◌, map, length, get_or, set, refl, arith, ap, ap₂, sym, ◌∙◌, subst, Option, Some, append-nil, get_or-set_other, get_or-set_same, length-set}
 use Rattle.std.proofs.lemmas.Bool.{cases_eq, cases_Bool, cond_both, or_parts}
 use Rattle.std.proofs.lemmas.Bool.Decides.{nat_tests}
@@ -17,7 +18,7 @@ use Rattle.pm_ranges.specs.Joins.{Row}
 use Rattle.pm_ranges.specs.Known.{Known, covers, grown, grown_pieces, nothing_known, raised_rest}
 use Rattle.pm_ranges.proofs.Grows.{grown-line}
 use Rattle.pm_routes.specs.Routings.{place_of}
-use Rattle.pm_clp.specs.Clps.{ClpSends, ClpState, has, no_clp_sends, tell, tell_from, tell_one, tell_periods}
+use Rattle.pm_clp.specs.Clps.{ClpSends, ClpState, no_clp_sends, tell, tell_from, tell_one, tell_periods}
 use Rattle.pm_sim.specs.Worlds.{clps_of, hub_of, ports, posted}
 use Rattle.pm_sim.specs.Sims.{In, tally, one_if, NotPast}
 use Rattle.pm_sim.specs.Bounds.{Item, grow_all, items, row_of, sent_to, table_ok, tells}

@@ -1,4 +1,6 @@
 -- Who waits has something on its way: part by part, for each world in which the whole fact holds.
+use Rattle.pm_queries.specs.declared.registered.Registered.{Registered}
+use Rattle.pm_queries.specs.Queries.{has}
 use Rattle.std.proofs.Common.{Bool, List, None, Option, Some, [], ap, arith, false, get_or, inl, inr, length, refl, subst, sym, true, ℕ, ℤ, ◌++◌, ◌+◌, ◌<◌, ◌∙◌, ◌∷◌, ◌≡◌, ◌≤◌, ◌⊎◌}
 use Rattle.pm_base.specs.Windows.{IsPair, whole}
 use Rattle.pm_base.specs.declared.rows.GiveRow.{GiveRow}
@@ -18,8 +20,6 @@ use Rattle.pm_saved.specs.declared.kept.KeptSense.{KeptSense}
 use Rattle.pm_saved.specs.declared.kept.KeptStep.{KeptStep}
 use Rattle.pm_alp.specs.Agents.{Rule, no_agent}
 use Rattle.pm_alp.specs.declared.agent.Awaited.{Awaited}
-use Rattle.pm_clp.specs.Clps.{has}
-use Rattle.pm_clp.specs.declared.sent.Registered.{Registered}
 use Rattle.pm_sim.proofs.Awakes.{Awake, run_awake}
 use Rattle.pm_sim.proofs.Ends.{goes_low}
 use Rattle.pm_sim.proofs.Firsts.{PlanFits}

@@ -1,6 +1,6 @@
 -- All records of a class at a CLP watch a query.
+use Rattle.pm_queries.specs.declared.registered.Sent.{Sent}
 use Rattle.pm_alp.specs.declared.agent.Agent.{Agent}
-use Rattle.pm_clp.specs.declared.sent.Sent.{Sent}
 use Rattle.std.proofs.Common.{◌≡◌, ℕ, suc, ◌+◌, ◌<◌, ◌≤◌, ◌⊎◌, inl, inr, true, List, [], ◌∷◌, ◌++◌, map, length, get_or, set, refl, arith, ap, sym, ◌∙◌, subst, Option, Some, None, get_or-set_other, get_or-set_same, length-set, append_assoc}
 use Rattle.std.proofs.lemmas.Bool.{cond_both, cases_eq}
 use Rattle.std.proofs.lemmas.List.{map-append}

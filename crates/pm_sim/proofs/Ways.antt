@@ -1,5 +1,7 @@
 -- The ways of a CLP always lead over its tree ports: they are set where a variable leaves for a port, and where it
 -- comes.
+use Rattle.pm_queries.specs.declared.registered.Registered.{Registered}
+use Rattle.pm_queries.specs.Queries.{has_reg, without}
 use Rattle.std.proofs.Common.{Bool, List, None, Option, Some, [], ap, arith, false, get_or, get_or-set_other, get_or-set_same, inl, inr, length, length-set, refl, set, subst, suc, sym, true, zero, ℕ, ◌==◌, ◌∙◌, ◌∷◌, ◌≡◌}
 use Rattle.std.proofs.lemmas.Bool.{cases_eq, cases_lt, cond_both}
 use Rattle.pm_base.specs.Layouts.{class_of, class_row}
@@ -20,8 +22,7 @@ use Rattle.pm_ranges.specs.Known.{covers}
 use Rattle.pm_routes.specs.Routings.{Routing, arrived, counted, is_drawn, left}
 use Rattle.pm_routes.specs.declared.way.Way.{Way}
 use Rattle.pm_tables.specs.Tables.{grow_at, known_at}
-use Rattle.pm_clp.specs.Clps.{Answered, ClpSends, ClpState, Hub, and_then, at_record, clp_after, counting, has_reg, installed, leaves, no_clp_sends, on_record, on_way, queries_watch, rec_at, registered, take_cut, take_put, take_watch, tell, tell_from, tell_periods, tell_record, telling, watch_all, watch_if, way_of, with_count, without}
-use Rattle.pm_clp.specs.declared.sent.Registered.{Registered}
+use Rattle.pm_clp.specs.Clps.{Answered, ClpSends, ClpState, Hub, and_then, at_record, clp_after, counting, installed, leaves, no_clp_sends, on_record, on_way, queries_watch, rec_at, registered, take_cut, take_put, take_watch, tell, tell_from, tell_periods, tell_record, telling, watch_all, watch_if, way_of, with_count}
 use Rattle.pm_sim.proofs.Lines.{get_past}
 use Rattle.pm_sim.proofs.Movings.{drawn_port}
 use Rattle.pm_sim.specs.Sims.{In}

@@ -1,13 +1,14 @@
 -- What bounds and registered class queries rest on: where each record stands, and what is sent over each port.
+use Rattle.pm_queries.specs.Queries.{has_reg, has}
+use Rattle.pm_queries.specs.declared.registered.Registered.{Registered}
 use Rattle.pm_tables.specs.Tables.{may_hold}
-use Rattle.pm_clp.specs.declared.sent.Registered.{Registered}
 use Rattle.std.specs.Prelude.{ℕ, ◌<◌, ◌≡◌, ◌⊎◌, true, List, Option, Some, false, length}
 use Rattle.pm_base.specs.declared.rows.Parts.{Parts}
 use Rattle.pm_base.specs.declared.stamp.Stamp.{Stamp}
 use Rattle.pm_base.specs.declared.value.Window.{Window}
 use Rattle.pm_periods.specs.Records.{settled}
 use Rattle.pm_plan.specs.declared.plan.Plan.{Plan}
-use Rattle.pm_clp.specs.Clps.{ClpState, has_reg, rec_at, has}
+use Rattle.pm_clp.specs.Clps.{ClpState, rec_at}
 use Rattle.pm_sim.specs.Worlds.{Mail, Process, clps_of, ports, process}
 use Rattle.pm_sim.specs.Worlds.Process.{AtClp}
 use Rattle.pm_sim.specs.Sims.{In, class_at, has_read}

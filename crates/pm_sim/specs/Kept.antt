@@ -1,4 +1,5 @@
 -- What the processes keep, and that nothing of it is below the line.
+use Rattle.pm_queries.specs.declared.registered.Registered.{Registered}
 use Rattle.std.specs.Prelude.{List, None, Option, Some, [], length, true, ℕ, ◌+◌, ◌∷◌, ◌≡◌}
 use Rattle.pm_base.specs.declared.rows.CutRow.{CutRow}
 use Rattle.pm_base.specs.declared.rows.Parts.{Parts}
@@ -10,7 +11,6 @@ use Rattle.pm_plan.specs.declared.plan.Plan.{Plan}
 use Rattle.pm_saved.specs.declared.kept.KeptStep.{KeptStep}
 use Rattle.pm_alp.specs.declared.agent.Agent.{Agent}
 use Rattle.pm_clp.specs.Clps.{ClpState, rec_at}
-use Rattle.pm_clp.specs.declared.sent.Registered.{Registered}
 use Rattle.pm_sim.specs.Looks.{agent_of, clp_of}
 use Rattle.pm_sim.specs.Sims.{In, NotPast}
 use Rattle.pm_sim.specs.Worlds.{World, after_events, first_world, is_legal_run}

@@ -1,6 +1,7 @@
 -- What each event keeps true of the tree: registered class queries, and where they are on their way.
+use Rattle.pm_queries.specs.Queries.{has_reg, ask_of}
+use Rattle.pm_queries.specs.declared.registered.Registered.{Registered}
 use Rattle.pm_base.specs.Stamps.{num_eq}
-use Rattle.pm_clp.specs.declared.sent.Registered.{Registered}
 use Rattle.std.specs.Prelude.{Option, None, ℕ, suc, ◌+◌, ◌<◌, ◌≤◌, ◌≡◌, ◌⊎◌, ◌==◌, Bool, true, false, ◌&&◌, if◌then◌else◌, List, [], ◌∷◌, length, Some}
 use Rattle.pm_base.specs.declared.rows.Parts.{Parts}
 use Rattle.pm_base.specs.declared.stamp.Line.{Line}
@@ -13,7 +14,7 @@ use Rattle.pm_periods.specs.Records.{settled}
 use Rattle.pm_plan.specs.Plans.{parents}
 use Rattle.pm_plan.specs.Trees.{hop}
 use Rattle.pm_plan.specs.declared.plan.Plan.{Plan}
-use Rattle.pm_clp.specs.Clps.{ClpState, has_reg, ask_of, rec_at, way_of}
+use Rattle.pm_clp.specs.Clps.{ClpState, rec_at, way_of}
 use Rattle.pm_sim.specs.Worlds.{Mail, Process, home, is_process, clps_of, ports, process}
 use Rattle.pm_sim.specs.Worlds.Process.{AtClp, AtAgent}
 use Rattle.pm_sim.specs.Sims.{AtMost, In, NotPast, one_if, tally}

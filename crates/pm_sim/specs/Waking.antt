@@ -1,4 +1,5 @@
 -- Who waits has something on its way: awaited Wakes, steps that haven't acted, and CLPs that wait for a port.
+use Rattle.pm_queries.specs.declared.registered.Registered.{Registered}
 use Rattle.std.specs.Prelude.{List, None, Option, Some, [], false, get_or, length, true, ℕ, ◌++◌, ◌+◌, ◌<◌, ◌∷◌, ◌≡◌, ◌≤◌, ◌⊎◌}
 use Rattle.pm_base.specs.declared.rows.GiveRow.{GiveRow}
 use Rattle.pm_base.specs.declared.run.Event.{Event}
@@ -13,7 +14,6 @@ use Rattle.pm_saved.specs.declared.kept.KeptSense.{KeptSense}
 use Rattle.pm_saved.specs.declared.kept.KeptStep.{KeptStep}
 use Rattle.pm_alp.specs.declared.agent.Agent.{Agent}
 use Rattle.pm_alp.specs.declared.agent.Awaited.{Awaited}
-use Rattle.pm_clp.specs.declared.sent.Registered.{Registered}
 use Rattle.pm_sim.specs.Bounds.{between}
 use Rattle.pm_sim.specs.Looks.{agent_of, clp_of, messages_of}
 use Rattle.pm_sim.specs.Routings.{Goes, Wait}

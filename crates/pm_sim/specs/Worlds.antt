@@ -1,8 +1,8 @@
 -- The world: a state per process, a list of messages per link, and a line; its events and its runs.
+use Rattle.pm_queries.specs.declared.registered.Sent.{Sent}
 use Rattle.pm_alp.specs.declared.agent.Awaited.{Awaited}
 use Rattle.pm_alp.specs.declared.agent.Agent.{Agent}
 use Rattle.pm_saved.specs.Steps.{hand_out}
-use Rattle.pm_clp.specs.declared.sent.Sent.{Sent}
 use Rattle.std.specs.Prelude.{ℕ, zero, suc, ◌+◌, ◌-◌, ◌==◌, nat_lt, Bool, true, false, not, ◌&&◌}
 use Rattle.std.specs.Prelude.{if◌then◌else◌, List, [], ◌∷◌, ◌++◌, map, length, get_or, set, Option, Some, None}
 use Rattle.std.specs.List.{flat_map}
