@@ -1,9 +1,10 @@
 -- Where a number stands among the kept steps.
-use Rattle.std.specs.Prelude.{if◌then◌else◌, List, [], ◌∷◌, Option, Some, None}
+use Rattle.std.specs.Prelude.{◌≡◌, ℕ, zero, suc, if◌then◌else◌, List, [], ◌∷◌, Option, Some, None}
 use Rattle.pm_base.specs.Stamps.{num_eq}
 use Rattle.pm_base.specs.declared.stamp.Num.{Num}
 use Rattle.pm_saved.specs.declared.kept.KeptSense.{KeptSense}
 use Rattle.pm_saved.specs.declared.kept.KeptStep.{KeptStep}
+use Rattle.pm_saved.specs.declared.spot.Spot.{Spot as Place}
 
 -- a sense's place among all kept steps: the steps before its step, that step, its senses before it, it, those after it,
 -- and the steps after its step
@@ -47,3 +48,28 @@ spot_in x xs None other = step_in_front x other
 abbrev pub find : Num → List KeptStep → Option Spot
 find n [] = None
 find n (x ∷ xs) = spot_in x xs (find_sense n x.senses) (find n xs)
+
+-- the sense at this place in its step, counted from 0; None past the end
+abbrev pub sense_at : ℕ → List KeptSense → Option InStep
+sense_at j [] = None
+sense_at zero (x ∷ xs) = Some (record { before = []; sense = x; later = xs })
+sense_at (suc j) (x ∷ xs) = in_front x (sense_at j xs)
+
+-- the sense at this place in this step, both counted from 0; None past the end
+abbrev pub step_at : ℕ → ℕ → List KeptStep → Option Spot
+step_at i j [] = None
+step_at zero j (x ∷ xs) = spot_in x xs (sense_at j x.senses) None
+step_at (suc i) j (x ∷ xs) = step_in_front x (step_at i j xs)
+
+-- the place in full, where there is such a sense
+abbrev pub spot_at : Place → List KeptStep → Option Spot
+spot_at at steps = step_at at.step at.sense steps
+
+-- the place in full of what was found
+abbrev pub spot_of : Option Place → List KeptStep → Option Spot
+spot_of None steps = None
+spot_of (Some at) steps = spot_at at steps
+
+-- this is so at the place, where there is such a sense
+abbrev pub AtSpot : List KeptStep → Place → (Spot → Type 0) → Type 0
+AtSpot steps at P = (s : Spot) → spot_at at steps ≡ Some s → P s

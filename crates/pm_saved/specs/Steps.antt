@@ -1,5 +1,6 @@
 -- The kept steps of an agent: its registers along them, what is withdrawn of them, and what a line hands out.
-use Rattle.std.specs.Prelude.{Bool, true, false, List, [], ◌∷◌, ◌++◌, Option, Some, None, ℤ}
+use Rattle.std.specs.Prelude.{◌≡◌, ℕ, ◌+◌, Bool, true, false, if◌then◌else◌}
+use Rattle.std.specs.Prelude.{List, [], ◌∷◌, ◌++◌, drop, Option, Some, None, ℤ}
 use Rattle.pm_base.specs.Stamps.{is_below}
 use Rattle.pm_base.specs.declared.rows.Entry.{Entry}
 use Rattle.pm_base.specs.declared.stamp.Line.{Line}
@@ -8,7 +9,9 @@ use Rattle.pm_base.specs.declared.stamp.Stamp.{Stamp}
 use Rattle.pm_base.specs.declared.value.Write.{Write}
 use Rattle.pm_message.specs.declared.Message.{Message}
 use Rattle.pm_message.specs.declared.Message.TheVariants as message
+use Rattle.pm_saved.specs.Spots.{Spot}
 use Rattle.pm_saved.specs.declared.kept.KeptAct.{KeptAct}
+use Rattle.pm_saved.specs.declared.kept.KeptSense.{KeptSense}
 use Rattle.pm_saved.specs.declared.kept.KeptStep.{KeptStep}
 
 -- the registers after a step that ended so, or before it, where it hasn't ended
@@ -69,3 +72,59 @@ base_one true regs (Some a) rest = rest
 abbrev pub base_of : Line → List ℤ → List KeptStep → List ℤ
 base_of l regs [] = regs
 base_of l regs (s ∷ ss) = base_one (is_below s.stamp l) regs s.act (base_of l (regs_of regs s.act) ss)
+
+-- what is kept: the registers before the kept steps, these steps in order, and an end of the numbers under which senses
+-- asked so far, of dropped steps too
+pub record Kept : Type 0 where
+  pub base : List ℤ
+  pub steps : List KeptStep
+  pub used : ℕ
+
+-- nothing is kept yet
+abbrev pub nothing_kept : List ℤ → Kept
+nothing_kept regs = record { base = regs; steps = []; used = 0 }
+
+-- a step that has sensed nothing yet
+abbrev pub opened : Stamp → KeptStep
+opened s = record { stamp = s; senses = []; act = None }
+
+-- what is kept with one more step
+abbrev pub with_step : KeptStep → Kept → Kept
+with_step s k = record k { steps = k.steps ++ s ∷ [] }
+
+-- this is so of the last step and those before it, where there is a step
+abbrev pub AtLast : List KeptStep → (List KeptStep → KeptStep → Type 0) → Type 0
+AtLast steps P = (front : List KeptStep) (last : KeptStep) → steps ≡ front ++ last ∷ [] → P front last
+
+-- what is kept with one more sense of the last step
+abbrev pub with_asked : List KeptStep → KeptStep → KeptSense → Kept → Kept
+with_asked front last x k = record k {
+  steps = front ++ record last { senses = last.senses ++ x ∷ [] } ∷ [];
+  used = x.num.seq + 1;
+}
+
+-- what is kept after the last step ended so
+abbrev pub with_act : List KeptStep → KeptStep → KeptAct → Kept → Kept
+with_act front last a k = record k { steps = front ++ record last { act = Some a } ∷ [] }
+
+-- what is kept with this sense in the place of the one there
+abbrev pub with_sense : Spot → KeptSense → Kept → Kept
+with_sense s x k = record k { steps = s.front ++ record s.here { senses = s.before ++ x ∷ s.later } ∷ s.rest }
+
+-- what is kept up to the sense at this place: its step hasn't ended
+abbrev pub cut_to : Spot → Kept → Kept
+cut_to s k = record k { steps = s.front ++ record s.here { senses = s.before ++ s.sense ∷ []; act = None } ∷ [] }
+
+-- how the first kept step ended, where it is below the line and has ended
+abbrev pub first_ready : Line → List KeptStep → Option KeptAct
+first_ready l [] = None
+first_ready l (s ∷ ss) = if is_below s.stamp l then s.act else None
+
+-- what is kept after the first step, which ended so, was given out: its registers are the base
+abbrev pub without_first : Option KeptAct → Kept → Kept
+without_first None k = k
+without_first (Some a) k = record k { base = a.regs; steps = drop 1 k.steps }
+
+-- more messages were sent: what was there stays
+abbrev pub HasGrown : List Message → List Message → Type 0
+HasGrown old new = (more : List Message) × (new ≡ old ++ more)

@@ -2,10 +2,18 @@
 //! makes of them.
 #![tactic(auto)]
 
+mod held;
+mod hits;
 mod kept;
 mod laws;
+mod look;
+mod saved;
+mod spot;
+mod steps;
 
 pub use kept::{KeptAct, KeptHit, KeptSense, KeptStep};
 pub use laws::{
     a_line_divides_the_steps, places_have_their_number, steps_are_withdrawn_one_by_one,
 };
+pub use saved::Saved;
+pub use spot::Spot;

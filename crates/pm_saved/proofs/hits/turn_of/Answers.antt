@@ -1,0 +1,9 @@
+use Rattle.std.proofs.Common.{ap, ◌∙◌, sym}
+use Rattle.pm_saved.proofs.HitLemmas.{turn-kept, turn_in}
+use Rattle.pm_saved.proofs.hits.turn_of.Goals as goal
+
+pub returns-in-Some : goal.returns-in-Some
+returns-in-Some c = sym (turn-kept c.args.var c.args.hits.now ∙ sym (ap turn_in c.in-Some.ensures))
+
+pub returns-in-None : goal.returns-in-None
+returns-in-None c = sym (turn-kept c.args.var c.args.hits.now ∙ sym (ap turn_in c.in-None.ensures))
