@@ -16,11 +16,24 @@ fn words(rt: &(impl Env + AllocGlobal)) -> io::Result<Vec<String>> {
     Ok(words)
 }
 
+/// How the program ends where the words can't be had: one that isn't UTF-8 is refused like any other.
+fn ending_of(error: &io::Error) -> Ending {
+    if error.kind() == io::ErrorKind::InvalidData {
+        Ending::Words
+    } else {
+        Ending::Memory
+    }
+}
+
 fn main(rt: HostRuntime) -> ExitCode {
     let mut err = StdSink::new(rt.stderr());
-    let Ok(words) = words(&rt) else {
-        offer(&mut err, &Ending::Memory);
-        return ExitCode::from(status_of(&Ending::Memory));
+    let words = match words(&rt) {
+        Ok(words) => words,
+        Err(error) => {
+            let ending = ending_of(&error);
+            offer(&mut err, &ending);
+            return ExitCode::from(status_of(&ending));
+        }
     };
     let mut input = StdSource::new(rt.stdin());
     let mut out = StdSink::new(rt.stdout());

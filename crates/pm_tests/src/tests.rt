@@ -102,32 +102,39 @@ const DEVICES: [Case; 6] = [
     },
 ];
 
-/// Words that name no mode.
-const OTHER_WORDS: [Case; 3] = [
-    Case {
-        name: "no words",
-        words: &[],
-        status: 1,
-        written: "",
-        told: WORDS,
-        ..GOOD
-    },
-    Case {
-        name: "another word",
-        words: &["run"],
-        status: 1,
-        written: "",
-        told: WORDS,
-        ..GOOD
-    },
-    Case {
-        name: "two words",
-        words: &["seq", "seq"],
-        status: 1,
-        written: "",
-        told: WORDS,
-        ..GOOD
-    },
+/// Words that are refused.
+const REFUSED_WORDS: [&[&str]; 20] = [
+    &[],
+    &["fly"],
+    &["seq", "seq"],
+    &["seq", "--workers", "65"],
+    &["seq", "--budget", "x"],
+    &["seq", "--epoch", "0"],
+    &["seq", "--seed", "1", "--seed", "2"],
+    &["run", "--workers", "65"],
+    &["run", "--seed", "1", "--seed", "2"],
+    &["seq", "--budget", "-1"],
+    &["seq", "--budget", "000000000000000000007"],
+    &["seq", "--budget", "20000001"],
+    &["seq", "--budget"],
+    &["seq", "--window", "0"],
+    &["seq", "--from", "1000000000001"],
+    &["seq", "--journal=x"],
+    &["--help"],
+    &["-h"],
+    &["--version"],
+    &["help"],
+];
+
+/// Words that ask for the whole trace.
+const SEQ_WORDS: [&[&str]; 7] = [
+    &["seq"],
+    &["--workers=2", "seq"],
+    &["--", "seq"],
+    &["seq", "--budget", "3"],
+    &["seq", "--budget", "00000000000000000007"],
+    &["--journal", "seq", "--seed=18446744073709551615"],
+    &["--epoch=1", "--window=1", "seq", "--from", "0"],
 ];
 
 fn words_of(alloc: Global, words: &[&str]) -> Result<Vec<String>, AllocError> {
@@ -195,7 +202,7 @@ fn run(alloc: Global, words: &[&str], devices: Devices) -> Result<Left, AllocErr
     left_of(report.status, out, err)
 }
 
-/// The same with devices that never fail.
+/// The same with one word and devices that never fail.
 fn run_text(alloc: Global, word: &str, text: &str) -> Result<Left, AllocError> {
     let devices = devices_of(
         alloc,
@@ -289,9 +296,33 @@ fn devices_that_give_a_part_or_fail(rt: HostRuntime) -> Result<(), Fail> {
     Ok(())
 }
 
+/// What words leave of the counter, over devices that never fail.
+fn left_by(alloc: Global, words: &[&str]) -> Result<Left, AllocError> {
+    let devices = devices_of(
+        alloc,
+        COUNTER,
+        Vec::new(alloc),
+        Vec::new(alloc),
+        Vec::new(alloc),
+    )?;
+    run(alloc, words, devices)
+}
+
 #[test]
-fn words_that_name_no_mode(rt: HostRuntime) -> Result<(), Fail> {
-    assert_eq!(rt; other_than_told(rt.alloc(), &OTHER_WORDS)?, None);
+fn words_that_are_refused(rt: HostRuntime) -> Result<(), Fail> {
+    for words in REFUSED_WORDS {
+        let left = left_by(rt.alloc(), words)?;
+        assert!(rt; left.is(1, "", WORDS), "{words:?}");
+    }
+    Ok(())
+}
+
+#[test]
+fn words_that_ask_for_the_trace(rt: HostRuntime) -> Result<(), Fail> {
+    for words in SEQ_WORDS {
+        let left = left_by(rt.alloc(), words)?;
+        assert!(rt; left.is(0, TRACE, ""), "{words:?}");
+    }
     Ok(())
 }
 

@@ -4,7 +4,7 @@ use Rattle.pm_plan.specs.declared.plan.Plan.{Plan}
 use Rattle.pm_top.specs.Headline.{IsAccepted, IsRefused, IsTooLong, IsWithin, PrintsSpent}
 use Rattle.pm_scenario.specs.declared.fault.ScenarioFault.{ScenarioFault}
 use Rattle.pm_top.specs.Outputs.{steps}
-use Rattle.pm_top.specs.declared.mode.Mode.{Mode}
+use Rattle.pm_words.specs.declared.settings.Mode.{Mode}
 use Rattle.pm_top.specs.declared.outcome.Ending.{Ending}
 use Rattle.pm_top.specs.declared.outcome.Ending.TheVariants as ending
 
@@ -19,13 +19,13 @@ pub record Told (e : Ending) (held : Option (List ℕ)) : Type 0 where
   pub too_long : e ≡ ending.TooLong → IfSome held IsTooLong
   pub accepted : Accepts e → IfSome held IsAccepted
 
-ok-err : (p : Plan) (f : ScenarioFault) → Path (Result Plan ScenarioFault) (Ok p) (Err f) → ⊥
+pub ok-err : (p : Plan) (f : ScenarioFault) → Path (Result Plan ScenarioFault) (Ok p) (Err f) → ⊥
 ok-err p f e = cc
 
 not-both : (b : List ℕ) (f : ScenarioFault) → IsAccepted b → IsRefused f b → ⊥
 not-both b f a r = ok-err a.plan f (sym a.is ∙ r.no_plan)
 
-not-long : (b : List ℕ) → length b ≤ 4194304 → IsTooLong b → ⊥
+pub not-long : (b : List ℕ) → length b ≤ 4194304 → IsTooLong b → ⊥
 not-long b short long = omega (arith, short, long)
 
 same-fault : (f g : ScenarioFault) → Path (Result Plan ScenarioFault) (Err f) (Err g) → f ≡ g

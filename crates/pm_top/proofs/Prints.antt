@@ -6,7 +6,7 @@ use Rattle.pm_plan.specs.declared.plan.Plan.{Plan}
 use Rattle.pm_scenario.specs.Scenarios.{plan_of}
 use Rattle.pm_scenario.specs.declared.fault.ScenarioFault.{ScenarioFault}
 use Rattle.pm_top.specs.Outputs.{output}
-use Rattle.pm_top.specs.declared.mode.Mode.{Mode}
+use Rattle.pm_words.specs.declared.settings.Mode.{Mode}
 use Rattle.pm_top.specs.Headline.{PrintsPart, PrintsPrefix, IsAccepted, IsRefused, IsTooLong}
 use Rattle.pm_top.specs.Readings.{IsReadWhole, IsReadPast}
 use Rattle.pm_top.proofs.Written.{output-some, part-none}

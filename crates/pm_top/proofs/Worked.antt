@@ -11,7 +11,7 @@ use Rattle.pm_rules.specs.declared.fault.RuleFault.TheVariants as rule
 use Rattle.pm_scenario.specs.declared.fault.ScenarioFault.TheVariants as fault
 use Rattle.pm_top.specs.Outputs.{first_lines, output, steps}
 use Rattle.pm_top.specs.Refusals.{refusal}
-use Rattle.pm_top.specs.declared.mode.Mode.TheVariants as mode
+use Rattle.pm_words.specs.declared.settings.Mode.TheVariants as mode
 
 pub counter-parts : output mode.Check counter ≡ codes "ok clps 1 classes 1 vars 1 agents 1\n"
 unfolding digits

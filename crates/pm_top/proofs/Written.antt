@@ -10,8 +10,8 @@ use Rattle.pm_model.specs.Traces.{line, trace_text, end_line, trace}
 use Rattle.pm_io.specs.Causes.{AppendsPart, AppendsPrefix}
 use Rattle.pm_io.proofs.Known.{appends-append, appends-none, prefix-part, prefix-none, prefix-after}
 use Rattle.pm_top.specs.Outputs.{check_line, output}
-use Rattle.pm_top.specs.declared.mode.Mode.{Mode}
-use Rattle.pm_top.specs.declared.mode.Mode.TheVariants as mode
+use Rattle.pm_words.specs.declared.settings.Mode.{Mode}
+use Rattle.pm_words.specs.declared.settings.Mode.TheVariants as mode
 
 more-some : (xs ys : List ℕ) → 0 < length xs → 0 < length (xs ++ ys)
 more-some xs ys some = omega (arith, some, length-append xs ys)

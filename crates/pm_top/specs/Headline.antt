@@ -1,5 +1,5 @@
 -- What the program promises of a call.
-use Rattle.std.specs.Prelude.{◌≡◌, ◌≢◌, ◌↔◌, ◌⊎◌, ℕ, ◌<◌, ◌≤◌}
+use Rattle.std.specs.Prelude.{◌≡◌, ◌≢◌, ◌⊎◌, ℕ, ◌<◌, ◌≤◌}
 use Rattle.std.specs.Prelude.{List, length, Option, None, IfSome, IfOk, Ok, Err}
 use Rattle.std.specs.Io.KnownBytes.{Appends, IsAtEnd}
 use Rattle.pm_io.specs.Causes.{AppendsPart, AppendsPrefix, Rose}
@@ -10,9 +10,11 @@ use Rattle.pm_top.specs.Endings.{error_line}
 use Rattle.pm_top.specs.Outputs.{first_lines, output, steps}
 use Rattle.pm_top.specs.Readings.{IsReadPast}
 use Rattle.pm_top.specs.Speech.{Fails, SinkSight}
-use Rattle.pm_top.specs.declared.mode.Mode.{Mode}
 use Rattle.pm_top.specs.declared.outcome.Ending.{Ending}
 use Rattle.pm_top.specs.declared.outcome.Ending.TheVariants as ending
+use Rattle.pm_words.specs.declared.settings.Mode.{Mode}
+use Rattle.pm_words.specs.declared.settings.Mode.TheVariants as mode
+use Rattle.pm_words.specs.declared.settings.Settings.{Settings}
 
 -- more bytes than a scenario may have
 abbrev pub IsTooLong : List ℕ → Type 0
@@ -28,6 +30,10 @@ pub record IsAccepted (b : List ℕ) : Type 0 where
   pub short : length b ≤ 4194304
   pub plan : Plan
   pub is : plan_of b ≡ Ok plan
+
+-- a text that is refused, for whatever cause
+abbrev pub IsUnfit : List ℕ → Type 0
+IsUnfit b = IsTooLong b ⊎ ((f : ScenarioFault) × IsRefused f b)
 
 -- a scenario of which the mode does at most as many steps as the budget
 pub record IsWithin (m : Mode) (budget : ℕ) (b : List ℕ) : Type 0 where
@@ -94,11 +100,9 @@ pub record SourceSight : Type 0 where
   pub held : Option (List ℕ)
   pub faults : ℕ
 
--- a call: its mode, none where the words name none, how many steps it may do, how it ended, and its devices before
--- and after
+-- a call: its settings, none where the words are refused, how it ended, and its devices before and after
 pub record Call : Type 0 where
-  pub mode : Option Mode
-  pub budget : ℕ
+  pub settings : Option Settings
   pub ending : Ending
   pub input : SourceSight
   pub input_after : SourceSight
@@ -108,16 +112,26 @@ pub record Call : Type 0 where
   pub err_after : SinkSight
 
 -- what out holds after each ending
-pub record IsPrinted (c : Call) (m : Mode) : Type 0 where
-  pub done : c.ending ≡ ending.Done → PrintsAll m c.budget c.input.held c.out.holds c.out_after.holds
-  pub spent : c.ending ≡ ending.BudgetSpent → PrintsSpent m c.budget c.input.held c.out.holds c.out_after.holds
-  pub part : PrintsPrefix m c.input.held c.out.holds c.out_after.holds
-  pub unfinished : c.ending ≢ ending.Done → PrintsPart m c.input.held c.out.holds c.out_after.holds
-  pub lacks : c.ending ≡ ending.WriteFault → LacksLines m c.budget c.input.held c.out.holds c.out_after.holds
+pub record IsPrinted (c : Call) (s : Settings) : Type 0 where
+  pub done : c.ending ≡ ending.Done → PrintsAll s.mode s.run.budget c.input.held c.out.holds c.out_after.holds
+  pub spent : c.ending ≡ ending.BudgetSpent
+      → PrintsSpent s.mode s.run.budget c.input.held c.out.holds c.out_after.holds
+  pub part : PrintsPrefix s.mode c.input.held c.out.holds c.out_after.holds
+  pub unfinished : c.ending ≢ ending.Done → PrintsPart s.mode c.input.held c.out.holds c.out_after.holds
+  pub lacks : c.ending ≡ ending.WriteFault
+      → LacksLines s.mode s.run.budget c.input.held c.out.holds c.out_after.holds
+  pub sequential : c.ending ≡ ending.BudgetSpent → s.mode ≡ mode.Seq
+
+-- the call ended as one whose words are refused, or for want of memory, and touched neither input nor out
+pub record IsStopped (c : Call) : Type 0 where
+  pub ended : (c.ending ≡ ending.Words) ⊎ (c.ending ≡ ending.Memory)
+  pub input : c.input_after ≡ c.input
+  pub out : c.out_after ≡ c.out
 
 -- why each ending came
 pub record IsCaused (c : Call) : Type 0 where
-  pub words : (c.ending ≡ ending.Words) ↔ (c.mode ≡ None)
+  pub words : c.ending ≡ ending.Words → c.settings ≡ None
+  pub no_words : c.settings ≡ None → IsStopped c
   pub refused : (f : ScenarioFault) → c.ending ≡ ending.Refused f → IfSome c.input.held (IsRefused f)
   pub too_long : c.ending ≡ ending.TooLong → IfSome c.input.held IsTooLong × IsReadPast c.input.held c.input_after.held
   pub accepted : (c.ending ≡ ending.Done) ⊎ ((c.ending ≡ ending.BudgetSpent) ⊎ (c.ending ≡ ending.WriteFault))
@@ -131,7 +145,7 @@ abbrev pub IsTold : Call → Type 0
 IsTold c = c.ending ≢ ending.Done → Offers c.err c.err_after (error_line c.ending)
 
 -- the endings that must come, where the devices do not fail
-pub record IsComplete (c : Call) (m : Mode) : Type 0 where
+pub record IsComplete (c : Call) (s : Settings) : Type 0 where
   pub refuses : c.ending ≢ ending.ReadFault → c.ending ≢ ending.Memory
       → IfSome c.input.held (λ b. (f : ScenarioFault) → IsRefused f b → c.ending ≡ ending.Refused f)
   pub limits : c.ending ≢ ending.ReadFault → c.ending ≢ ending.Memory
@@ -140,11 +154,11 @@ pub record IsComplete (c : Call) (m : Mode) : Type 0 where
       → IfSome c.input.held (λ b. IsAccepted b
       → (c.ending ≡ ending.Done) ⊎ ((c.ending ≡ ending.BudgetSpent) ⊎ (c.ending ≡ ending.Memory)))
   pub within : ¬ Rose c.input.faults c.input_after.faults → ¬ Fails c.out c.out_after
-      → IfSome c.input.held (λ b. IsWithin m c.budget b → (c.ending ≡ ending.Done) ⊎ (c.ending ≡ ending.Memory))
+      → IfSome c.input.held (λ b. IsWithin s.mode s.run.budget b → (c.ending ≡ ending.Done) ⊎ (c.ending ≡ ending.Memory))
 
 -- what every call promises
 pub record IsServed (c : Call) : Type 0 where
-  pub printed : IfSome c.mode (IsPrinted c)
+  pub printed : IfSome c.settings (IsPrinted c)
   pub caused : IsCaused c
   pub told : IsTold c
-  pub complete : IfSome c.mode (IsComplete c)
+  pub complete : IfSome c.settings (IsComplete c)

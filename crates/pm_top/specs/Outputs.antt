@@ -1,24 +1,10 @@
 -- What each mode writes of a plan.
-use Rattle.std.specs.Prelude.{ℕ, List, [], ◌∷◌, ◌++◌, length, take, Option, Some, None, if◌then◌else◌}
-use Rattle.std.specs.Prelude.{String, string_bytes, codes, decimal}
-use Rattle.std.specs.Str.{bytes_eq}
-use Rattle.std.specs.declared.alloc.Global.{Global}
+use Rattle.std.specs.Prelude.{ℕ, List, ◌++◌, length, take, codes, decimal}
 use Rattle.pm_model.specs.Runs.{sequential_run}
 use Rattle.pm_model.specs.Traces.{trace, trace_text}
 use Rattle.pm_plan.specs.declared.plan.Plan.{Plan}
-use Rattle.pm_top.specs.declared.mode.Mode.{Mode}
-use Rattle.pm_top.specs.declared.mode.Mode.TheVariants as mode
-
--- the mode that a word names: only `seq` and `check` name one
-abbrev pub mode_named : List ℕ → Option Mode
-mode_named w =
-    if bytes_eq w (codes "seq") then Some mode.Seq
-    else if bytes_eq w (codes "check") then Some mode.Check else None
-
--- the words are one word, which names a mode
-abbrev pub mode_of : List (String Global) → Option Mode
-mode_of (word ∷ []) = mode_named (string_bytes word)
-mode_of _ = None
+use Rattle.pm_words.specs.declared.settings.Mode.{Mode}
+use Rattle.pm_words.specs.declared.settings.Mode.TheVariants as mode
 
 -- `ok clps A classes B vars C agents D`
 abbrev pub check_line : Plan → List ℕ

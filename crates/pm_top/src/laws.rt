@@ -1,20 +1,17 @@
-ghost use Rattle.std.specs.Prelude.{◌≡◌, [], ◌∷◌, ◌++◌, Some, None, codes};
+ghost use Rattle.std.specs.Prelude.{◌≡◌, [], ◌∷◌, codes};
 ghost use Rattle.pm_model.specs.Examples.{counter, tie_write_first};
 ghost use Rattle.pm_plan.specs.declared.fault.PlanFault.TheVariants as plan;
 ghost use Rattle.pm_plan.specs.declared.plan.Kind.TheVariants as kind;
 ghost use Rattle.pm_rules.specs.declared.fault.RuleFault.TheVariants as rule;
 ghost use Rattle.pm_scenario.specs.declared.fault.ScenarioFault.TheVariants as fault;
 ghost use Rattle.pm_top.specs.Endings.{error_line, status_of};
-ghost use Rattle.pm_top.specs.Outputs.{first_lines, mode_named, output, steps};
+ghost use Rattle.pm_top.specs.Outputs.{first_lines, output, steps};
 ghost use Rattle.pm_top.specs.Refusals.{refusal};
-ghost use Rattle.pm_top.specs.declared.mode.Mode.TheVariants as mode;
 ghost use Rattle.pm_top.specs.declared.outcome.Ending.TheVariants as ending;
+ghost use Rattle.pm_words.specs.declared.settings.Mode.TheVariants as mode;
 
-/// What the modes write of the plan in which one agent counts at three times, and their words.
+/// What the modes write of the plan in which one agent counts at three times.
 pub fn worked_outputs()
-    ensures sequential { mode_named (codes "seq") ≡ Some mode.Seq }
-    ensures check { mode_named (codes "check") ≡ Some mode.Check }
-    ensures neither { mode_named (codes "Seq") ≡ None }
     ensures parts { output mode.Check counter ≡ codes "ok clps 1 classes 1 vars 1 agents 1\n" }
     ensures pair { output mode.Check tie_write_first ≡ codes "ok clps 1 classes 1 vars 1 agents 2\n" }
     ensures trace { output mode.Seq counter ≡

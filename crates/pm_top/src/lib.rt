@@ -3,7 +3,6 @@
 
 mod check;
 mod laws;
-mod mode;
 mod outcome;
 mod program;
 mod reading;

@@ -1,4 +1,4 @@
-ghost use Rattle.std.specs.Prelude.{◌≡◌, ◌≢◌, ◌↔◌, ◌⊎◌, ◌≤◌, ◌<◌, [], Some, None, IfSome, Ok, Err, length};
+ghost use Rattle.std.specs.Prelude.{◌≡◌, ◌≢◌, ◌⊎◌, ◌≤◌, ◌<◌, [], Some, None, IfSome, Ok, Err, length, map, string_bytes};
 ghost use Rattle.std.specs.Io.KnownBytes.{Appends, IsAtEnd};
 ghost use Rattle.pm_io.specs.Causes.{AppendsPart, AppendsPrefix, Rose};
 ghost use Rattle.pm_plan.specs.Limits.{IsWithinLimits};
@@ -7,12 +7,12 @@ ghost use Rattle.pm_plan.specs.declared.plan.Plan.{Plan as ThePlan};
 ghost use Rattle.pm_scenario.specs.Scenarios.{plan_of};
 ghost use Rattle.pm_scenario.specs.declared.fault.ScenarioFault.{ScenarioFault as TheFault};
 ghost use Rattle.pm_top.specs.Endings.{status_of};
-ghost use Rattle.pm_top.specs.Headline.{EndsRun, IsAccepted, IsRefused, IsServed, IsTooLong, LacksLines, PrintsAll, PrintsPart, PrintsPrefix, PrintsSpent, ReadsAll, WritesNothing};
-ghost use Rattle.pm_top.specs.Outputs.{first_lines, mode_of, output, steps};
+ghost use Rattle.pm_top.specs.Headline.{EndsRun, IsAccepted, IsRefused, IsServed, IsTooLong, IsUnfit, LacksLines, PrintsAll, PrintsPart, PrintsPrefix, PrintsSpent, ReadsAll, WritesNothing};
+ghost use Rattle.pm_top.specs.Outputs.{first_lines, output, steps};
 ghost use Rattle.pm_top.specs.Readings.{IsReadPast};
+ghost use Rattle.pm_words.specs.Words.{settings_of};
 
 use crate::check::write_check;
-use crate::mode::{Mode, mode_of};
 use crate::outcome::{Ending, offer, status_of};
 use crate::reading::{Unread, read_whole};
 use crate::run::{Ran, write_run};
@@ -21,11 +21,9 @@ use pm_io::{Gate, Sink, Source};
 use pm_plan::Plan;
 use pm_plan::laws::limits_are_kept;
 use pm_scenario::{ScenarioFault, read};
+use pm_words::{Mode, WordsFault};
 use std::alloc::Global;
 use std::thread::Threads;
-
-/// The most steps that a run does.
-const BUDGET: u64 = 1_000_000;
 
 /// How a call ended.
 #[derive(Debug, Drop)]
@@ -66,6 +64,7 @@ fn write_output<K: Sink>(alloc: Global, mode: Mode, plan: &Plan, budget: u64, ou
         AppendsPart (K.holds out.old) (K.holds out.new) (first_lines budget plan.now) }
     ensures cause { result ≡ Ran.WriteFault → Rose (K.faults out.old) (K.faults out.new)
         ⊎ Rose (K.stalls out.old) (K.stalls out.new) }
+    ensures sequential { result ≡ Ran.BudgetSpent → mode ≡ Mode.Seq }
 {
     match mode {
         Mode::Seq => write_run(alloc, plan, budget, out),
@@ -92,6 +91,8 @@ fn run_text<K: Sink>(alloc: Global, mode: Mode, bytes: &[u8], budget: u64, out: 
     ensures fault { result ≡ Ending.WriteFault → Rose (K.faults out.old) (K.faults out.new)
         ⊎ Rose (K.stalls out.old) (K.stalls out.new) }
     ensures ran { EndsRun result }
+    ensures sequential { result ≡ Ending.BudgetSpent → mode ≡ Mode.Seq }
+    ensures unfit { (f : TheFault) → plan_of bytes.now ≡ Err f → out.new ≡ out.old }
 {
     let plan = match read(alloc, bytes) {
         Ok(plan) => plan,
@@ -130,6 +131,8 @@ fn run_mode<S: Source, K: Sink>(
     ensures write_fault { result ≡ Ending.WriteFault → Rose (K.faults out.old) (K.faults out.new)
         ⊎ Rose (K.stalls out.old) (K.stalls out.new) }
     ensures words { result ≢ Ending.Words }
+    ensures sequential { result ≡ Ending.BudgetSpent → mode ≡ Mode.Seq }
+    ensures unfit { IfSome (S.held input.old) (λ b. IsUnfit b → out.new ≡ out.old) }
 {
     let bytes = match read_whole(alloc, input) {
         Ok(bytes) => bytes,
@@ -152,19 +155,17 @@ fn report_of(alloc: Global, ending: Ending) -> Report
     }
 }
 
-/// Does what the words ask for. A run does at most `budget` steps.
-pub fn serve<S: Source, K: Sink, E: Sink>(
+/// Does what the words ask for.
+fn serve<S: Source, K: Sink, E: Sink>(
     alloc: Global,
     words: &Vec<String>,
-    budget: u64,
     input: &mut S,
     out: &mut K,
     err: &mut E,
 ) -> Report
     ensures status { result.status ≡ status_of result.ending }
     ensures served { IsServed (record {
-      mode = mode_of words.now.items;
-      budget = budget;
+      settings = settings_of (map string_bytes words.now.items);
       ending = result.ending;
       input = record { held = S.held input.old; faults = S.faults input.old };
       input_after = record { held = S.held input.new; faults = S.faults input.new };
@@ -174,23 +175,32 @@ pub fn serve<S: Source, K: Sink, E: Sink>(
       err_after = record { holds = E.holds err.new; faults = E.faults err.new; stalls = E.stalls err.new };
     }) }
     ensures nothing { WritesNothing result.ending → out.new ≡ out.old }
-    ensures untouched { result.ending ≡ Ending.Words → input.new ≡ input.old }
+    ensures unfit { IfSome (S.held input.old) (λ b. IsUnfit b → out.new ≡ out.old) }
+    ensures untouched { settings_of (map string_bytes words.now.items) ≡ None →
+        (input.new ≡ input.old) × (out.new ≡ out.old) }
     ensures silent { result.ending ≡ Ending.Done → err.new ≡ err.old }
     ensures journal { result.journal ≡ [] }
 {
-    let Some(mode) = mode_of(words.as_slice()) else {
-        offer(err, &Ending::Words);
-        return report_of(alloc, Ending::Words);
+    let settings = match pm_words::read(alloc, words) {
+        Ok(settings) => settings,
+        Err(WordsFault::Words) => {
+            offer(err, &Ending::Words);
+            return report_of(alloc, Ending::Words);
+        }
+        Err(WordsFault::Memory) => {
+            offer(err, &Ending::Memory);
+            return report_of(alloc, Ending::Memory);
+        }
     };
-    let ending = run_mode(alloc, mode, budget, input, out);
+    let ending = run_mode(alloc, settings.mode, settings.run.budget, input, out);
     offer(err, &ending);
     report_of(alloc, ending)
 }
 
-/// All that the program does. `words` are those after the program's name: the one word `seq`, for the sequential run
-/// of the scenario that `input` holds, or the one word `check`, for how many parts it has. A run's trace is written to
-/// `out`, each line by itself, up to 1,000,000 steps; at each ending but `Done` the line of that ending is offered to
-/// `err`. Nothing asks `gate` and no thread is started in these modes.
+/// All that the program does. `words` are those after the program's name, as `pm_words` reads them: the mode `seq`, for
+/// the sequential run of the scenario that `input` holds, or `check`, for how many parts it has. A run's trace is written
+/// to `out`, each line by itself, up to as many steps as the option `budget` says; at each ending but `Done` the line of
+/// that ending is offered to `err`. Nothing asks `gate` and no thread is started in these modes.
 pub fn top<R: Threads + Sync, S: Source, K: Sink, E: Sink, G: Gate + Sync>(
     rt: &R,
     alloc: Global,
@@ -202,8 +212,7 @@ pub fn top<R: Threads + Sync, S: Source, K: Sink, E: Sink, G: Gate + Sync>(
 ) -> Report
     ensures status { result.status ≡ status_of result.ending }
     ensures served { IsServed (record {
-      mode = mode_of words.now.items;
-      budget = 1000000;
+      settings = settings_of (map string_bytes words.now.items);
       ending = result.ending;
       input = record { held = S.held input.old; faults = S.faults input.old };
       input_after = record { held = S.held input.new; faults = S.faults input.new };
@@ -213,13 +222,15 @@ pub fn top<R: Threads + Sync, S: Source, K: Sink, E: Sink, G: Gate + Sync>(
       err_after = record { holds = E.holds err.new; faults = E.faults err.new; stalls = E.stalls err.new };
     }) }
     ensures nothing { WritesNothing result.ending → out.new ≡ out.old }
-    ensures untouched { result.ending ≡ Ending.Words → input.new ≡ input.old }
+    ensures unfit { IfSome (S.held input.old) (λ b. IsUnfit b → out.new ≡ out.old) }
+    ensures untouched { settings_of (map string_bytes words.now.items) ≡ None →
+        (input.new ≡ input.old) × (out.new ≡ out.old) }
     ensures silent { result.ending ≡ Ending.Done → err.new ≡ err.old }
     ensures journal { result.journal ≡ [] }
 {
     let _ = rt;
     let _ = gate;
-    serve(alloc, words, BUDGET, input, out, err)
+    serve(alloc, words, input, out, err)
 }
 
 /// The same on this thread alone.
@@ -232,8 +243,7 @@ pub fn plain<S: Source, K: Sink, E: Sink>(
 ) -> Report
     ensures status { result.status ≡ status_of result.ending }
     ensures served { IsServed (record {
-      mode = mode_of words.now.items;
-      budget = 1000000;
+      settings = settings_of (map string_bytes words.now.items);
       ending = result.ending;
       input = record { held = S.held input.old; faults = S.faults input.old };
       input_after = record { held = S.held input.new; faults = S.faults input.new };
@@ -243,9 +253,11 @@ pub fn plain<S: Source, K: Sink, E: Sink>(
       err_after = record { holds = E.holds err.new; faults = E.faults err.new; stalls = E.stalls err.new };
     }) }
     ensures nothing { WritesNothing result.ending → out.new ≡ out.old }
-    ensures untouched { result.ending ≡ Ending.Words → input.new ≡ input.old }
+    ensures unfit { IfSome (S.held input.old) (λ b. IsUnfit b → out.new ≡ out.old) }
+    ensures untouched { settings_of (map string_bytes words.now.items) ≡ None →
+        (input.new ≡ input.old) × (out.new ≡ out.old) }
     ensures silent { result.ending ≡ Ending.Done → err.new ≡ err.old }
     ensures journal { result.journal ≡ [] }
 {
-    serve(alloc, words, BUDGET, input, out, err)
+    serve(alloc, words, input, out, err)
 }

@@ -1,4 +1,4 @@
-use crate::program::serve;
+use crate::plain;
 use pm_io::{MemSink, MemSource};
 use std::alloc::AllocError;
 use std::test::Fail;
@@ -18,17 +18,20 @@ const SPENT: &str = "pdesmas: the budget is spent\n";
 fn budgets_of_a_run(rt: HostRuntime) -> Result<(), Fail> {
     let alloc = rt.alloc();
     let rows = [
-        (3, 0, TRACE, ""),
-        (2, 3, TWO_LINES, SPENT),
-        (0, 3, "", SPENT),
+        ("3", 0, TRACE, ""),
+        ("2", 3, TWO_LINES, SPENT),
+        ("0", 3, "", SPENT),
     ];
     for (budget, status, output, told) in rows {
-        let words = vec![in alloc; String::from_str(alloc, "seq")?]?;
+        let mut words = Vec::new(alloc);
+        for word in ["seq", "--budget", budget] {
+            words.push(String::from_str(alloc, word)?)?;
+        }
         let text = Vec::from_slice(alloc, COUNTER.as_bytes())?;
         let mut input = MemSource::new(text, Vec::new(alloc));
         let mut out = MemSink::new(alloc, Vec::new(alloc));
         let mut err = MemSink::new(alloc, Vec::new(alloc));
-        let report = serve(alloc, &words, budget, &mut input, &mut out, &mut err);
+        let report = plain(alloc, &words, &mut input, &mut out, &mut err);
         if out.wants() > 0 || err.wants() > 0 {
             return Err(AllocError.into());
         }

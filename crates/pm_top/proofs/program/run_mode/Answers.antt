@@ -1,7 +1,10 @@
-use Rattle.std.proofs.Common.{Some, subst}
-use Rattle.pm_top.specs.Headline.{EndsRun, IsAccepted, IsRefused, LacksLines, PrintsPart, PrintsPrefix, PrintsSpent, PrintsAll}
+use Rattle.std.proofs.Common.{◌≡◌, ◌∙◌, ap, Some, inl, inr, refl, subst}
+use Rattle.pm_scenario.specs.Scenarios.{plan_of}
+use Rattle.pm_top.specs.Headline.{EndsRun, IsAccepted, IsRefused, IsUnfit, LacksLines, PrintsPart, PrintsPrefix, PrintsSpent, PrintsAll}
+use Rattle.pm_top.proofs.Complete.{not-long}
 use Rattle.pm_top.proofs.Endings.{runs-nothing}
 use Rattle.pm_top.proofs.Prints.{accepted-is, held-too-long, of-held, prints-none, prints-short, refused-is}
+use Rattle.pm_top.proofs.Stopped.{kept}
 use Rattle.pm_top.proofs.program.run_mode.Goals as goal
 
 pub returns-in-Err-Failed-clause-part : goal.returns-in-Err-Failed-clause-part
@@ -75,3 +78,21 @@ pub returns-clause-unfinished : goal.returns-clause-unfinished
 returns-clause-unfinished g c =
     λ h. of-held (λ b. PrintsPart c.args.mode (Some b) (g.K.Sink.holds c.args.out.now) (g.K.Sink.holds c.run_text.new.out)) (g.S.Source.held c.args.input.now)
     (g.S.Source.held c.read_whole.new.input) c.in-Ok.bytes.items c.in-Ok.ensures.whole (rw c.as_slice.ensures.value at (c.run_text.ensures.unfinished h))
+
+pub returns-in-Err-Failed-clause-unfit : goal.returns-in-Err-Failed-clause-unfit
+returns-in-Err-Failed-clause-unfit g c = kept (g.S.Source.held c.args.input.now) (λ b unfit. refl)
+
+pub returns-in-Err-TooLong-clause-unfit : goal.returns-in-Err-TooLong-clause-unfit
+returns-in-Err-TooLong-clause-unfit g c = kept (g.S.Source.held c.args.input.now) (λ b unfit. refl)
+
+pub returns-in-Err-Memory-clause-unfit : goal.returns-in-Err-Memory-clause-unfit
+returns-in-Err-Memory-clause-unfit g c = kept (g.S.Source.held c.args.input.now) (λ b unfit. refl)
+
+pub returns-clause-unfit : goal.returns-clause-unfit
+returns-clause-unfit g c =
+    of-held (λ b. IsUnfit b → c.run_text.new.out ≡ c.args.out.now) (g.S.Source.held c.args.input.now)
+    (g.S.Source.held c.read_whole.new.input) c.in-Ok.bytes.items c.in-Ok.ensures.whole
+    (λ unfit. elim unfit [
+      inl long ↦ absurd (not-long c.in-Ok.bytes.items c.in-Ok.ensures.whole.few long)
+    | inr r ↦ c.run_text.ensures.unfit r.0 (ap plan_of c.as_slice.ensures.value ∙ r.1.no_plan)
+    ])

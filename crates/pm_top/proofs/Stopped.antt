@@ -1,0 +1,90 @@
+-- A call that ends at its words.
+use Rattle.std.proofs.Common.{◌≡◌, ◌⊎◌, inl, inr, ℕ, List, Option, Some, None, IfSome, refl}
+use Rattle.pm_top.specs.Headline.{Call, IsAccepted, IsComplete, IsPrinted, IsServed, IsTold, IsUnfit, IsWithin, SourceSight}
+use Rattle.pm_top.specs.Speech.{SinkSight}
+use Rattle.pm_top.specs.declared.outcome.Ending.{Ending}
+use Rattle.pm_top.specs.declared.outcome.Ending.TheVariants as ending
+use Rattle.pm_words.specs.declared.settings.Mode.{Mode}
+use Rattle.pm_words.specs.declared.settings.Settings.{Settings}
+use Rattle.pm_top.proofs.Complete.{Accepts, words-not}
+use Rattle.pm_top.proofs.Prints.{prints-none, prints-short}
+
+memory-not : Accepts ending.Memory → ⊥
+memory-not (inl h) = cc h
+memory-not (inr (inl h)) = cc h
+memory-not (inr (inr h)) = cc h
+
+-- what holds is not changed by what the input held
+pub kept : {P : List ℕ → Type 0} (held : Option (List ℕ)) → ((b : List ℕ) → P b) → IfSome held P
+kept None h = tt
+kept (Some b) h = h b
+
+-- a call that touches neither input nor out
+abbrev pub stopped : Option Settings → Ending → SourceSight → SinkSight → SinkSight → SinkSight → Call
+stopped s e i o before after = record {
+  settings = s;
+  ending = e;
+  input = i;
+  input_after = i;
+  out = o;
+  out_after = o;
+  err = before;
+  err_after = after;
+}
+
+module _ (i : SourceSight) (o before after : SinkSight) where
+  pub words-served : IsTold (stopped None ending.Words i o before after) → IsServed (stopped None ending.Words i o before after)
+  words-served told = record {
+    printed = tt;
+    caused = record {
+      words = λ h. refl;
+      no_words = λ h. record { ended = inl refl; input = refl; out = refl };
+      refused = λ f h. absurd (cc h);
+      too_long = λ h. absurd (cc h);
+      accepted = λ h. absurd (words-not h);
+      read = λ h. absurd h;
+      read_fault = λ h. absurd (cc h);
+      write_fault = λ h. absurd (cc h);
+    };
+    told = told;
+    complete = tt;
+  }
+
+  some-printed : (s : Option Settings) (t : Settings) → IsPrinted (stopped s ending.Memory i o before after) t
+  some-printed s t = record {
+    done = λ h. absurd (cc h);
+    spent = λ h. absurd (cc h);
+    part = prints-none t.mode i.held o.holds;
+    unfinished = λ h. prints-short t.mode i.held o.holds;
+    lacks = λ h. absurd (cc h);
+    sequential = λ h. absurd (cc h);
+  }
+
+  some-complete : (s : Option Settings) (t : Settings) → IsComplete (stopped s ending.Memory i o before after) t
+  some-complete s t = record {
+    refuses = λ read memory. absurd (memory refl);
+    limits = λ read memory. absurd (memory refl);
+    completes = λ good well. kept i.held (λ b a. inr (inr refl));
+    within = λ good well. kept i.held (λ b a. inr refl);
+  }
+
+  each : (P : Settings → Type 0) (s : Option Settings) → ((t : Settings) → P t) → IfSome s P
+  each P None h = tt
+  each P (Some t) h = h t
+
+  pub memory-served : (s : Option Settings) → IsTold (stopped s ending.Memory i o before after) → IsServed (stopped s ending.Memory i o before after)
+  memory-served s told = record {
+    printed = each (IsPrinted (stopped s ending.Memory i o before after)) s (some-printed s);
+    caused = record {
+      words = λ h. absurd (cc h);
+      no_words = λ h. record { ended = inr refl; input = refl; out = refl };
+      refused = λ f h. absurd (cc h);
+      too_long = λ h. absurd (cc h);
+      accepted = λ h. absurd (memory-not h);
+      read = λ h. absurd h;
+      read_fault = λ h. absurd (cc h);
+      write_fault = λ h. absurd (cc h);
+    };
+    told = told;
+    complete = each (IsComplete (stopped s ending.Memory i o before after)) s (some-complete s);
+  }
