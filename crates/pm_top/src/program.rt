@@ -1,4 +1,4 @@
-ghost use Rattle.std.specs.Prelude.{◌≡◌, ◌≢◌, ◌⊎◌, ◌≤◌, ◌<◌, [], Some, None, IfSome, Ok, Err, length, map, string_bytes};
+ghost use Rattle.std.specs.Prelude.{◌≡◌, ◌≢◌, ◌↔◌, ◌⊎◌, ◌≤◌, ◌<◌, [], Some, None, IfSome, Ok, Err, length, map, string_bytes};
 ghost use Rattle.std.specs.Io.KnownBytes.{Appends, IsAtEnd};
 ghost use Rattle.pm_io.specs.Causes.{AppendsPart, AppendsPrefix, Rose};
 ghost use Rattle.pm_plan.specs.Limits.{IsWithinLimits};
