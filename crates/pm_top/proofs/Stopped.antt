@@ -1,10 +1,9 @@
 -- A call that ends at its words.
-use Rattle.std.proofs.Common.{◌≡◌, ◌⊎◌, inl, inr, ℕ, List, Option, Some, None, IfSome, refl}
-use Rattle.pm_top.specs.Headline.{Call, IsAccepted, IsComplete, IsPrinted, IsServed, IsTold, IsUnfit, IsWithin, SourceSight}
+use Rattle.std.proofs.Common.{inl, inr, ℕ, List, Option, Some, None, IfSome, refl}
+use Rattle.pm_top.specs.Headline.{Call, IsComplete, IsPrinted, IsServed, IsTold, SourceSight}
 use Rattle.pm_top.specs.Speech.{SinkSight}
 use Rattle.pm_top.specs.declared.outcome.Ending.{Ending}
 use Rattle.pm_top.specs.declared.outcome.Ending.TheVariants as ending
-use Rattle.pm_words.specs.declared.settings.Mode.{Mode}
 use Rattle.pm_words.specs.declared.settings.Settings.{Settings}
 use Rattle.pm_top.proofs.Complete.{Accepts, words-not}
 use Rattle.pm_top.proofs.Prints.{prints-none, prints-short}

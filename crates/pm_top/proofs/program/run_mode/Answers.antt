@@ -93,6 +93,6 @@ returns-clause-unfit g c =
     of-held (λ b. IsUnfit b → c.run_text.new.out ≡ c.args.out.now) (g.S.Source.held c.args.input.now)
     (g.S.Source.held c.read_whole.new.input) c.in-Ok.bytes.items c.in-Ok.ensures.whole
     (λ unfit. elim unfit [
-      inl long ↦ absurd (not-long c.in-Ok.bytes.items c.in-Ok.ensures.whole.few long)
-    | inr r ↦ c.run_text.ensures.unfit r.0 (ap plan_of c.as_slice.ensures.value ∙ r.1.no_plan)
+      | inl long ↦ absurd (not-long c.in-Ok.bytes.items c.in-Ok.ensures.whole.few long)
+      | inr r ↦ c.run_text.ensures.unfit r.0 (ap plan_of c.as_slice.ensures.value ∙ r.1.no_plan)
     ])

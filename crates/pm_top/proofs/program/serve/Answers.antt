@@ -15,7 +15,7 @@ returns-in-Err-Words-clause-served g c =
 
 pub returns-in-Err-Memory-clause-served : goal.returns-in-Err-Memory-clause-served
 returns-in-Err-Memory-clause-served g c =
-    rw c.report_of-2.ensures.ending (memory-served _ _ _ _ _ c.offer-2.ensures.told)
+    rw c.report_of-in-Err-Memory.ensures.ending (memory-served _ _ _ _ _ c.offer-in-Err-Memory.ensures.told)
 
 pub returns-clause-untouched : goal.returns-clause-untouched
 returns-clause-untouched g c = λ none. absurd (some-none c.in-Ok.settings (sym c.in-Ok.ensures.ok ∙ none))
@@ -27,7 +27,7 @@ returns-clause-served g c =
     let held = g.S.Source.held c.args.input.now in
     let named : settings_of (map string_bytes c.args.words.now.items) ≡ Some c.in-Ok.settings = c.in-Ok.ensures.ok in
     let told : Told e held = record { words = run.words; refused = run.refused; too_long = λ h. (run.too_long h).0; accepted = run.accepted } in
-    rw (c.report_of-3.ensures.ending, named) (record {
+    rw (c.report_of-2.ensures.ending, named) (record {
       printed = record { done = run.done; spent = run.spent; part = run.part; unfinished = run.unfinished; lacks = run.lacks; sequential = run.sequential };
       caused = record {
         words = λ h. absurd (run.words h);
@@ -39,7 +39,7 @@ returns-clause-served g c =
         read_fault = run.read_fault;
         write_fault = run.write_fault;
       };
-      told = c.offer-3.ensures.told;
+      told = c.offer-2.ensures.told;
       complete = record {
         refuses = refuses e held told;
         limits = limits e held told;
