@@ -10,6 +10,8 @@ mod look;
 mod saved;
 mod spot;
 mod steps;
+#[cfg(test)]
+mod tests;
 
 pub use kept::{KeptAct, KeptHit, KeptSense, KeptStep};
 pub use laws::{
