@@ -39,8 +39,8 @@ number_at most text = number_in most (take (digits_len text) text) (drop (digits
 unfoldable pub after : List ℕ → List ℕ → Option (List ℕ)
 after word text = if starts_with nat_eq text word then Some (drop (length word) text) else None
 
--- first the one, and then the other with what it gave
 infixl 10 ◌>>=◌
+-- first the one, and then the other with what it gave
 abbrev pub ◌>>=◌ : {A B : Type 0} → Option A → (A → Option B) → Option B
 o >>= f = option_and_then f o
 
