@@ -62,17 +62,20 @@ module _ (t f : ℕ) (P : List Link → Type 0) (none : P [])
 pub place-low : (t f n : ℕ) (ls : List Link) → place_of t f ls ≡ Some n → n < length ls
 place-low t f = found t f (λ n ls. n < length ls) (λ l ls is. omega arith) (λ l ls n is h. omega (arith, h))
 
-pub posted-there : (t f : ℕ) (m : Message) (n : ℕ) (ls : List Link) → place_of t f ls ≡ Some n → posted t f m ls ≡ posted_at n m ls
+pub posted-there : (t f : ℕ) (m : Message) (n : ℕ) (ls : List Link)
+    → place_of t f ls ≡ Some n → posted t f m ls ≡ posted_at n m ls
 posted-there t f m = found t f (λ n ls. posted t f m ls ≡ posted_at n m ls)
     (λ l ls is. rw is refl) (λ l ls n is h. rw is (ap (λ z. l ∷ z) h))
 
 pub posted-new : (t f : ℕ) (m : Message) (ls : List Link) → place_of t f ls ≡ None
     → posted t f m ls ≡ ls ++ (record { to = t; from = f; messages = m ∷ [] }) ∷ []
-posted-new t f m = missing t f (λ ls. posted t f m ls ≡ ls ++ (record { to = t; from = f; messages = m ∷ [] }) ∷ []) refl
+posted-new t f m =
+    missing t f (λ ls. posted t f m ls ≡ ls ++ (record { to = t; from = f; messages = m ∷ [] }) ∷ []) refl
     (λ l ls is h. rw is (ap (λ z. l ∷ z) h))
 
 pub waiting-there : (t f n : ℕ) (ls : List Link) → place_of t f ls ≡ Some n → waiting t f ls ≡ messages_at n ls
-waiting-there t f = found t f (λ n ls. waiting t f ls ≡ messages_at n ls) (λ l ls is. rw is refl) (λ l ls n is h. rw is h)
+waiting-there t f =
+    found t f (λ n ls. waiting t f ls ≡ messages_at n ls) (λ l ls is. rw is refl) (λ l ls n is h. rw is h)
 
 pub waiting-new : (t f : ℕ) (ls : List Link) → place_of t f ls ≡ None → waiting t f ls ≡ []
 waiting-new t f = missing t f (λ ls. waiting t f ls ≡ []) refl (λ l ls is h. rw is h)
@@ -89,7 +92,8 @@ pub has-place : (t f : ℕ) (ls : List Link) → has_link t f ls ≡ is_some (pl
 has-place t f [] = refl
 has-place t f (l ∷ ls) = by (is_link t f l) (place_of t f ls) (has-place t f ls)
   where
-    by : (b : Bool) (o : Option ℕ) → has_link t f ls ≡ is_some o → (b || has_link t f ls) ≡ is_some (cond b (Some 0) (option_map suc o))
+    by : (b : Bool) (o : Option ℕ)
+        → has_link t f ls ≡ is_some o → (b || has_link t f ls) ≡ is_some (cond b (Some 0) (option_map suc o))
     by true o e = refl
     by false None e = e
     by false (Some n) e = e
@@ -98,7 +102,8 @@ has-place t f (l ∷ ls) = by (is_link t f l) (place_of t f ls) (has-place t f l
 pub place-posted : (t f n : ℕ) (m : Message) (ls : List Link) → place_of t f (posted_at n m ls) ≡ place_of t f ls
 place-posted t f n m [] = refl
 place-posted t f zero m (l ∷ ls) = refl
-place-posted t f (suc n) m (l ∷ ls) = ap (λ o. cond (is_link t f l) (Some 0) (option_map suc o)) (place-posted t f n m ls)
+place-posted t f (suc n) m (l ∷ ls) =
+    ap (λ o. cond (is_link t f l) (Some 0) (option_map suc o)) (place-posted t f n m ls)
 
 pub place-taken : (t f n : ℕ) (ls : List Link) → place_of t f (taken_at n ls) ≡ place_of t f ls
 place-taken t f n [] = refl
@@ -110,7 +115,8 @@ abbrev pub or_last : Option ℕ → ℕ → Bool → Option ℕ
 or_last (Some n) last b = Some n
 or_last None last b = cond b (Some last) None
 
-pub place-append : (t f : ℕ) (ls : List Link) (l : Link) → place_of t f (ls ++ l ∷ []) ≡ or_last (place_of t f ls) (length ls) (is_link t f l)
+pub place-append : (t f : ℕ) (ls : List Link) (l : Link)
+    → place_of t f (ls ++ l ∷ []) ≡ or_last (place_of t f ls) (length ls) (is_link t f l)
 place-append t f [] l = by (is_link t f l)
   where
     by : (b : Bool) → cond b (Some 0) None ≡ or_last None 0 b
@@ -131,17 +137,21 @@ abbrev pub with_messages : Ends → List Message → Link
 with_messages e ms = record { to = e.to; from = e.from; messages = ms }
 
 pub lanes-posted : (n : ℕ) (m : Message) (xs : List Lane) (x y : Lane) → n < length xs → x ≡ get_or xs n x
-    → link_of y ≡ record (link_of x) { messages = (link_of x).messages ++ m ∷ [] } → map link_of (set xs n y) ≡ posted_at n m (map link_of xs)
+    → link_of y ≡ record (link_of x) { messages = (link_of x).messages ++ m ∷ [] }
+    → map link_of (set xs n y) ≡ posted_at n m (map link_of xs)
 lanes-posted n m [] x y lt e h = absurd (omega (arith, lt))
 lanes-posted zero m (z ∷ xs) x y lt e h =
-    ap (λ l. l ∷ map link_of xs) (h ∙ ap (λ (w : Lane). record (link_of w) { messages = (link_of w).messages ++ m ∷ [] }) e)
+    ap (λ l. l ∷ map link_of xs)
+    (h ∙ ap (λ (w : Lane). record (link_of w) { messages = (link_of w).messages ++ m ∷ [] }) e)
 lanes-posted (suc n) m (z ∷ xs) x y lt e h = ap (λ ls. link_of z ∷ ls) (lanes-posted n m xs x y (omega (arith, lt)) e h)
 
 pub lanes-taken : (n : ℕ) (xs : List Lane) (x y : Lane) → n < length xs → x ≡ get_or xs n x
-    → link_of y ≡ record (link_of x) { messages = drop 1 (link_of x).messages } → map link_of (set xs n y) ≡ taken_at n (map link_of xs)
+    → link_of y ≡ record (link_of x) { messages = drop 1 (link_of x).messages }
+    → map link_of (set xs n y) ≡ taken_at n (map link_of xs)
 lanes-taken n [] x y lt e h = absurd (omega (arith, lt))
 lanes-taken zero (z ∷ xs) x y lt e h =
-    ap (λ l. l ∷ map link_of xs) (h ∙ ap (λ (w : Lane). record (link_of w) { messages = drop 1 (link_of w).messages }) e)
+    ap (λ l. l ∷ map link_of xs)
+    (h ∙ ap (λ (w : Lane). record (link_of w) { messages = drop 1 (link_of w).messages }) e)
 lanes-taken (suc n) (z ∷ xs) x y lt e h = ap (λ ls. link_of z ∷ ls) (lanes-taken n xs x y (omega (arith, lt)) e h)
 
 pub lanes-same : (n : ℕ) (xs : List Lane) (x y : Lane) → n < length xs → x ≡ get_or xs n x → link_of y ≡ link_of x
@@ -150,7 +160,8 @@ lanes-same n [] x y lt e h = absurd (omega (arith, lt))
 lanes-same zero (z ∷ xs) x y lt e h = ap (λ l. l ∷ map link_of xs) (h ∙ ap link_of e)
 lanes-same (suc n) (z ∷ xs) x y lt e h = ap (λ ls. link_of z ∷ ls) (lanes-same n xs x y (omega (arith, lt)) e h)
 
-pub lane-messages : (n : ℕ) (xs : List Lane) (x : Lane) → n < length xs → x ≡ get_or xs n x → messages_at n (map link_of xs) ≡ x.waiting.items
+pub lane-messages : (n : ℕ) (xs : List Lane) (x : Lane)
+    → n < length xs → x ≡ get_or xs n x → messages_at n (map link_of xs) ≡ x.waiting.items
 lane-messages n [] x lt e = absurd (omega (arith, lt))
 lane-messages zero (z ∷ xs) x lt e = ap (λ (w : Lane). w.waiting.items) (sym e)
 lane-messages (suc n) (z ∷ xs) x lt e = lane-messages n xs x (omega (arith, lt)) e
@@ -166,7 +177,8 @@ place-new true (Some n) last h = absurd (let e = h refl in cc e)
 place-new false None last h = refl
 place-new false (Some n) last h = refl
 
-pub ends-same : (t f u g : ℕ) (ls : List Link) → (t == u && f == g) ≡ true → place_of t f ls ≡ None → place_of u g ls ≡ None
+pub ends-same : (t f u g : ℕ) (ls : List Link)
+    → (t == u && f == g) ≡ true → place_of t f ls ≡ None → place_of u g ls ≡ None
 ends-same t f u g ls e h =
     let a : t ≡ u = grind (arith, nat_tests, e) in
     let b : f ≡ g = grind (arith, nat_tests, e) in
@@ -209,7 +221,8 @@ moments-more [] y = sym (append-none (map stamp_of y.messages))
     append-none : (ss : List Stamp) → ss ≡ ss ++ []
     append-none [] = refl
     append-none (s ∷ ss) = ap (λ z. s ∷ z) (append-none ss)
-moments-more (x ∷ xs) y = ap (λ z. map stamp_of x.messages ++ z) (moments-more xs y) ∙ assoc (map stamp_of x.messages) (moments xs) (map stamp_of y.messages)
+moments-more (x ∷ xs) y = ap (λ z. map stamp_of x.messages ++ z) (moments-more xs y)
+    ∙ assoc (map stamp_of x.messages) (moments xs) (map stamp_of y.messages)
   where
     assoc : (a b c : List Stamp) → a ++ (b ++ c) ≡ (a ++ b) ++ c
     assoc [] b c = refl
@@ -222,14 +235,17 @@ lowered-least done [] = sym (ap least_line_of (append-none done))
     append-none [] = refl
     append-none (s ∷ ss) = ap (λ z. s ∷ z) (append-none ss)
 lowered-least done (s ∷ ss) =
-    ap (λ l. lowered l ss) (sym (least_line_of-snoc done s)) ∙ (lowered-least (done ++ s ∷ []) ss ∙ ap least_line_of (sym (assoc done (s ∷ []) ss)))
+    ap (λ l. lowered l ss) (sym (least_line_of-snoc done s))
+    ∙ (lowered-least (done ++ s ∷ []) ss ∙ ap least_line_of (sym (assoc done (s ∷ []) ss)))
   where
     assoc : (a b c : List Stamp) → a ++ (b ++ c) ≡ (a ++ b) ++ c
     assoc [] b c = refl
     assoc (x ∷ a) b c = ap (λ z. x ∷ z) (assoc a b c)
 
-pub links_appended : (xs old ys : List Lane) (lane : Lane) → xs ≡ old → ys ≡ xs ++ lane ∷ [] → map link_of ys ≡ map link_of old ++ link_of lane ∷ []
-links_appended xs old ys lane same more = ap (map link_of) (more ∙ ap (λ z. z ++ lane ∷ []) same) ∙ map-append link_of old (lane ∷ [])
+pub links_appended : (xs old ys : List Lane) (lane : Lane)
+    → xs ≡ old → ys ≡ xs ++ lane ∷ [] → map link_of ys ≡ map link_of old ++ link_of lane ∷ []
+links_appended xs old ys lane same more =
+    ap (map link_of) (more ∙ ap (λ z. z ++ lane ∷ []) same) ∙ map-append link_of old (lane ∷ [])
 
 -- the least of a line and one more moment
 pub lowered-more : (l : Line) (ms : List Message) (i : ℕ) (m : Message) → i < length ms → m ≡ get_or ms i m
@@ -237,13 +253,16 @@ pub lowered-more : (l : Line) (ms : List Message) (i : ℕ) (m : Message) → i 
 lowered-more l ms i m lt is =
     sym (ap (λ xs. lowered l (map stamp_of xs)) (take_more ms i m lt)
     ∙ (ap (λ x. lowered l (map stamp_of (take i ms ++ x ∷ []))) (sym is)
-    ∙ (ap (lowered l) (map-append stamp_of (take i ms) (m ∷ [])) ∙ lowered-append l (map stamp_of (take i ms)) (stamp_of m ∷ []))))
+    ∙ (ap (lowered l) (map-append stamp_of (take i ms) (m ∷ []))
+    ∙ lowered-append l (map stamp_of (take i ms)) (stamp_of m ∷ []))))
 
 -- and of the messages of one more link
 pub least-more : (xs : List Lane) (i : ℕ) (x : Lane) → i < length xs → x ≡ get_or xs i x
-    → lowered (least_line_of (moments (map link_of (take i xs)))) (map stamp_of x.waiting.items) ≡ least_line_of (moments (map link_of (take (i + 1) xs)))
+    → lowered (least_line_of (moments (map link_of (take i xs)))) (map stamp_of x.waiting.items)
+    ≡ least_line_of (moments (map link_of (take (i + 1) xs)))
 least-more xs i x lt is =
     lowered-least (moments (map link_of (take i xs))) (map stamp_of x.waiting.items)
     ∙ sym (ap (λ ys. least_line_of (moments (map link_of ys))) (take_more xs i x lt)
     ∙ (ap (λ y. least_line_of (moments (map link_of (take i xs ++ y ∷ [])))) (sym is)
-    ∙ (ap (λ ls. least_line_of (moments ls)) (map-append link_of (take i xs) (x ∷ [])) ∙ ap least_line_of (moments-more (map link_of (take i xs)) (link_of x)))))
+    ∙ (ap (λ ls. least_line_of (moments ls)) (map-append link_of (take i xs) (x ∷ []))
+    ∙ ap least_line_of (moments-more (map link_of (take i xs)) (link_of x)))))

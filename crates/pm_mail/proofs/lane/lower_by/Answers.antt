@@ -11,4 +11,5 @@ returns c =
     let back = c.as_slices.result.1.now in
     c.lower_all-2.ensures ∙ (ap (λ l. lowered l (map stamp_of back)) c.lower_all.ensures
     ∙ (sym (lowered-append c.args.line (map stamp_of front) (map stamp_of back))
-    ∙ (ap (lowered c.args.line) (sym (map-append stamp_of front back)) ∙ ap (λ ms. lowered c.args.line (map stamp_of ms)) c.as_slices.ensures.items)))
+    ∙ (ap (lowered c.args.line) (sym (map-append stamp_of front back))
+    ∙ ap (λ ms. lowered c.args.line (map stamp_of ms)) c.as_slices.ensures.items)))

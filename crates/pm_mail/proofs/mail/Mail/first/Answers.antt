@@ -23,7 +23,8 @@ returns-in-Some c =
     let x = c.index.result.now in
     front-first c.front.result x.waiting.items _ x.waiting.ok.0 c.front.ensures.variant c.front.ensures.lookup
     ∙ ap first_of (sym (lane-messages c.in-Some.at i.lanes.items x (omega (arith, low, same)) c.index.ensures)
-    ∙ (sym (waiting-there c.args.to c.args.from c.in-Some.at (map link_of i.lanes.items) here) ∙ ap (waiting c.args.to c.args.from) c.self.view_is))
+    ∙ (sym (waiting-there c.args.to c.args.from c.in-Some.at (map link_of i.lanes.items) here)
+    ∙ ap (waiting c.args.to c.args.from) c.self.view_is))
 
 pub returns-in-None : goal.returns-in-None
 returns-in-None c = sym (ap first_of (waiting-new c.args.to c.args.from c.args.self.now (sym c.in-None.ensures)))

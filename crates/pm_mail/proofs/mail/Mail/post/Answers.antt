@@ -28,7 +28,10 @@ returns-in_ok-push_at-in-Some-clause-ok c =
 
 pub returns-in_ok-push_back-in-None-clause-ok : goal.returns-in_ok-push_back-in-None-clause-ok
 returns-in_ok-push_back-in-None-clause-ok c =
-    let items = c.in_ok-push_back-in-None.ensures.items ∙ ap (λ ms. ms ++ c.args.message ∷ []) c.new-waiting.ensures.items in
+    let items =
+    c.in_ok-push_back-in-None.ensures.items ∙ ap (λ ms. ms ++ c.args.message ∷ []) c.new-waiting.ensures.items in
     on_ok c.append.result _ _ (λ h. h
-    ∙ (ap (λ (ms : List Message). c.args.self.now ++ (record { to = c.args.to; from = c.args.from; messages = ms }) ∷ []) items
-    ∙ sym (posted-new c.args.to c.args.from c.args.message c.args.self.now (sym c.in-None.ensures)))) c.append.ensures.ok
+    ∙ (ap (λ (ms : List Message). c.args.self.now
+    ++ (record { to = c.args.to; from = c.args.from; messages = ms }) ∷ []) items
+    ∙ sym (posted-new c.args.to c.args.from c.args.message c.args.self.now (sym c.in-None.ensures))))
+    c.append.ensures.ok

@@ -15,22 +15,26 @@ take_at-requires c =
 
 pub invariant_of-self : goal.invariant_of-self
 invariant_of-self c = λ e.
-    c.self.invariant e ∙ sym (ap (place_of e.to e.from) c.take_at.ensures.links ∙ place-taken e.to e.from c.in-Some.at (map link_of c.self.inside.lanes.items))
+    c.self.invariant e ∙ sym (ap (place_of e.to e.from) c.take_at.ensures.links
+    ∙ place-taken e.to e.from c.in-Some.at (map link_of c.self.inside.lanes.items))
 
 pub returns-in-Some-clause-message : goal.returns-in-Some-clause-message
 returns-in-Some-clause-message c =
     let ls = map link_of c.self.inside.lanes.items in
     let here = ap (place_of c.args.to c.args.from) c.self.view_is ∙ sym (c.in-Some.ensures) in
-    c.take_at.ensures.message ∙ ap first_of (sym (waiting-there c.args.to c.args.from c.in-Some.at ls here) ∙ ap (waiting c.args.to c.args.from) c.self.view_is)
+    c.take_at.ensures.message ∙ ap first_of (sym (waiting-there c.args.to c.args.from c.in-Some.at ls here)
+    ∙ ap (waiting c.args.to c.args.from) c.self.view_is)
 
 pub returns-in-Some-clause-links : goal.returns-in-Some-clause-links
 returns-in-Some-clause-links c =
     let ls = map link_of c.self.inside.lanes.items in
     let here = ap (place_of c.args.to c.args.from) c.self.view_is ∙ sym (c.in-Some.ensures) in
-    c.take_at.ensures.links ∙ (sym (taken-there c.args.to c.args.from c.in-Some.at ls here) ∙ ap (taken c.args.to c.args.from) c.self.view_is)
+    c.take_at.ensures.links ∙ (sym (taken-there c.args.to c.args.from c.in-Some.at ls here)
+    ∙ ap (taken c.args.to c.args.from) c.self.view_is)
 
 pub returns-in-None-clause-message : goal.returns-in-None-clause-message
-returns-in-None-clause-message c = sym (ap first_of (waiting-new c.args.to c.args.from c.args.self.now (sym c.in-None.ensures)))
+returns-in-None-clause-message c =
+    sym (ap first_of (waiting-new c.args.to c.args.from c.args.self.now (sym c.in-None.ensures)))
 
 pub returns-in-None-clause-links : goal.returns-in-None-clause-links
 returns-in-None-clause-links c = sym (taken-new c.args.to c.args.from c.args.self.now (sym c.in-None.ensures))
