@@ -1,6 +1,5 @@
 -- Worked rows: what a process with two tree ports, 0 and 5, does with single messages. Agent 0 is at home here, as
 -- process 9; agent 1 is behind port 0. Class 0 has one variable or two, class 1 has none.
-use Rattle.pm_queries.specs.declared.registered.Sent.{Sent}
 use Rattle.std.specs.Prelude.{ℕ, ◌≡◌, true, List, [], ◌∷◌, pos, Option, Some, None}
 use Rattle.pm_base.specs.Windows.{point_of, whole}
 use Rattle.pm_base.specs.declared.layout.ClassRow.{ClassRow}
@@ -18,6 +17,7 @@ use Rattle.pm_message.specs.declared.Message.TheVariants as message
 use Rattle.pm_routes.specs.declared.way.Way.{Way}
 use Rattle.pm_routes.specs.declared.way.Way.TheVariants as way
 use Rattle.pm_clp.specs.Clps.{ClpSends, ClpState, Hub, clp_after, first_clp}
+use Rattle.pm_queries.specs.declared.registered.Sent.{Sent}
 
 -- the moment of this time and agent
 abbrev pub at : ℕ → ℕ → Stamp
@@ -124,6 +124,30 @@ pub record SampleMoves : Type 0 where
   pub goes_on : sends 1 9 withdrawal (after 1 0 write (home 1)) ≡ to 0 withdrawal ∷ []
   -- a record that comes is watched at once by the query that is registered
   pub passes : sends 1 0 (message.Move 0 (at 0 0) written) (after 1 9 (asks 0 whole) away) ≡ hit 1 4 ∷ []
+
+-- class queries
+pub record SampleQueries : Type 0 where
+  -- it goes on where a value may stand in its window
+  pub goes_on : sends 1 9 (asks 0 whole) away ≡ to 0 (asks 0 whole) ∷ []
+  -- else it is done at once
+  pub pruned : sends 1 9 (asks 0 (across 40 60)) away ≡ to 9 done ∷ []
+  -- and goes out later, when more may stand there, of which the other port is told
+  pub caught_up : sends 1 0 (grows (at 0 0) None 50) (after 1 9 (asks 0 (across 40 60)) away) ≡
+      to 0 (asks 0 (across 40 60)) ∷ to 5 (grows (at 0 0) None 50) ∷ []
+  -- once only
+  pub once : sends 1 0 (grows (at 0 0) None 50)
+      (after 1 0 (grows (at 0 0) None 50) (after 1 9 (asks 0 (across 40 60)) away)) ≡ []
+  -- asked again it does nothing
+  pub known : clp_after (place 1) 9 (asks 0 whole) (after 1 9 (asks 0 whole) away) ≡
+      record { clp = after 1 9 (asks 0 whole) away; sent = [] }
+  -- it is done when the last port is
+  pub not_last : sends 2 0 done (after 2 9 (asks 0 whole) apart) ≡ []
+  pub last : sends 2 5 done (after 2 0 done (after 2 9 (asks 0 whole) apart)) ≡ to 9 done ∷ []
+  pub not_twice : sends 2 0 done (after 2 0 done (after 2 9 (asks 0 whole) apart)) ≡ []
+  -- an inverted window holds nothing
+  pub inverted : sends 1 9 (asks 0 (across 5 0)) (home 0) ≡ to 9 done ∷ []
+  -- a class without members has no hits
+  pub empty : sends 1 9 (asks 1 whole) (home 0) ≡ to 9 done ∷ []
 
 -- writes and withdrawals
 pub record SampleWrites : Type 0 where

@@ -3,12 +3,12 @@ ghost use Rattle.std.specs.Prelude.{◌≡◌, ◌<◌, ◌+◌, ◌^◌, [], �
 ghost use Rattle.std.specs.Option.{option_to_list};
 ghost use Rattle.pm_base.specs.Windows.{is_inverted};
 ghost use Rattle.pm_base.specs.Layouts.{var_count};
-ghost use Rattle.pm_clp.specs.Clps.{at_record, floor_of, grow_bound, sent_on};
+ghost use Rattle.pm_clp.specs.Clps.{after_finish, at_record, catch_up, clp_committed, counting, floor_of, grow_bound, on_grow, sent_on};
 ghost use Rattle.pm_clp.specs.Clps.{take_cut, take_put, take_watch, tell, tell_from, tell_one, tell_periods, telling};
 ghost use Rattle.pm_clp.specs.Clps.{to_agent, watch_all};
 ghost use Rattle.pm_routes.specs.Routings.{place_of, way_at};
 ghost use Rattle.pm_routes.specs.declared.way.Way.TheVariants as way;
-ghost use Rattle.pm_clp.specs.Views.{Did, DidRaise, give_to, others, sent_if, sent_off};
+ghost use Rattle.pm_clp.specs.Views.{Did, DidRaise, give_to, leave, others, sent_if, sent_off};
 
 use crate::records::Records;
 use pm_base::{
@@ -359,6 +359,109 @@ impl Clp {
         let place = self.place_of(port);
         self.bound.grow(alloc, place, class, when, window)?;
         Ok(())
+    }
+
+    // The queries of the class that came from elsewhere catch up at the port.
+    fn catch_up(&mut self, port: u32, class: u32, out: &mut List<Sent>) -> Result<(), Memory>
+        ensures { OnOk result (Did self.old self.new out.old out.new (catch_up self.old.hub port class)) }
+    {
+        let place = self.place_of(port);
+        self.queries.catch_up(port, class, &self.bound, place, out)
+    }
+
+    // The record of the variable leaves for the port, where it is here, and the port catches up.
+    #[tactic(auto, using(crate::proofs::Leaves::stayed_did, crate::proofs::Leaves::left_did))]
+    fn leave(
+        &mut self,
+        alloc: Global,
+        var: u32,
+        port: u32,
+        out: &mut List<Sent>,
+    ) -> Result<(), Memory>
+        requires exists { var < var_count self.old.hub.classes }
+        requires here { way_at self.old.clp.routing var ≡ Some way.Here }
+        ensures { OnOk result (Did self.old self.new out.old out.new (leave self.old.hub var port)) }
+    {
+        match self.records.take(var) {
+            None => Ok(()),
+            Some(held) => {
+                let class = self.layout.class_of(var);
+                self.send_off(alloc, var, port, held, out)?;
+                self.catch_up(port, class, out)
+            }
+        }
+    }
+
+    // An access to the variable is counted; it leaves for where that came from, once it belongs there.
+    #[tactic(auto, using(crate::proofs::Leaves::counted_did, crate::proofs::Leaves::drawn_did))]
+    fn counting(
+        &mut self,
+        alloc: Global,
+        var: u32,
+        from: u32,
+        out: &mut List<Sent>,
+    ) -> Result<(), Memory>
+        requires exists { var < var_count self.old.hub.classes }
+        requires here { way_at self.old.clp.routing var ≡ Some way.Here }
+        ensures { OnOk result (Did self.old self.new out.old out.new (counting self.old.hub var from)) }
+    {
+        match self.routes.count(var, from) {
+            None => Ok(()),
+            Some(port) => self.leave(alloc, var, port, out),
+        }
+    }
+
+    // A Finish takes its port off the query that it names.
+    fn on_finish(&mut self, from: u32, num: Num, out: &mut List<Sent>) -> Result<(), Memory>
+        ensures { OnOk result (Did self.old self.new out.old out.new (after_finish from num)) }
+    {
+        match self.queries.finish(num, from) {
+            None => Ok(()),
+            Some(sent) => out.push(sent),
+        }
+    }
+
+    // More may stand behind the port: queries catch up there, and the other ports are told.
+    #[tactic(auto, using(crate::proofs::Leaves::grew_did))]
+    fn on_grow(
+        &mut self,
+        alloc: Global,
+        port: u32,
+        class: u32,
+        from: Stamp,
+        until: Option<Stamp>,
+        window: Window,
+        out: &mut List<Sent>,
+    ) -> Result<(), Memory>
+        requires { is_inverted window ≡ false }
+        ensures { OnOk result (Did self.old self.new out.old out.new
+            (on_grow self.old.hub port class from until window)) }
+    {
+        let when = Interval {
+            from: Some(from),
+            until,
+        };
+        self.grow_bound(alloc, port, class, when, window)?;
+        self.catch_up(port, class, out)?;
+        self.tell(alloc, class, from, until, window, Some(port), out)
+    }
+
+    /// How many deliveries were made at this process.
+    pub fn made(&self) -> u64
+        ensures { result ≡ self.now.made }
+    {
+        self.made
+    }
+
+    /// The line is this one, and what is below it is forgotten. It takes no memory.
+    pub fn commit(&mut self, line: Line)
+        ensures { self.new ≡ record self.old { clp = clp_committed line self.old.clp } }
+    {
+        self.line = line;
+        self.records.trim(line);
+        self.queries.trim(line);
+        self.bound.trim(line);
+        self.told.trim(line);
     }
 }
 

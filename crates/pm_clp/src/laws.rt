@@ -3,7 +3,7 @@ ghost use Rattle.std.specs.Prelude.{◌≡◌, false, ℕ};
 ghost use Rattle.pm_base.specs.declared.stamp.Num.{Num as TheNum};
 ghost use Rattle.pm_base.specs.declared.stamp.Stamp.{Stamp as TheStamp};
 ghost use Rattle.pm_clp.specs.Clps.{ClpState, Hub, clp_after, no_clp_sends};
-ghost use Rattle.pm_clp.specs.Sample.{SampleMoves, SampleWrites};
+ghost use Rattle.pm_clp.specs.Sample.{SampleMoves, SampleQueries, SampleWrites};
 ghost use Rattle.pm_clp.specs.Takes.{takes};
 ghost use Rattle.pm_message.specs.declared.Message.TheVariants as message;
 
@@ -18,6 +18,11 @@ pub fn no_wake_is_taken()
 /// Worked rows: a variable leaves, a write goes on to it, and a record that comes meets a query.
 pub fn sample_moves()
     ensures { SampleMoves }
+{}
+
+/// Worked rows: a class query goes on, is pruned, catches up, is asked again, ends.
+pub fn sample_queries()
+    ensures { SampleQueries }
 {}
 
 /// Worked rows: writes and withdrawals, in either order, below a read and at its stamp.

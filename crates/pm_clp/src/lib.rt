@@ -6,5 +6,5 @@ mod clp;
 mod laws;
 mod records;
 
-pub use laws::{no_wake_is_taken, sample_moves, sample_writes};
+pub use laws::{no_wake_is_taken, sample_moves, sample_queries, sample_writes};
 pub use pm_queries::{Registered, Sent};
