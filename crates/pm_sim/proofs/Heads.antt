@@ -20,10 +20,10 @@ use Rattle.pm_sim.proofs.Firsts.{PlanFits}
 use Rattle.pm_sim.proofs.Letters.{map_in, message_of}
 use Rattle.pm_sim.proofs.Places.{Sim}
 use Rattle.pm_sim.proofs.Readies.{least_in, least_of, ready}
-use Rattle.pm_sim.proofs.Stamps.{num_eq_self, true_lt}
+use Rattle.pm_sim.proofs.Stamps.{num_eq_self, past_true, true_lt}
 use Rattle.pm_sim.proofs.Wholes.{Whole, first_whole, prefix, simulation, whole_run}
 use Rattle.pm_sim.specs.Journals.{AtLeast, Closed, Delivers, Epochs, Journal, Spans, epoch, journal, made, total}
-use Rattle.pm_sim.specs.Ready.{InWindow, Ready, TimeBelow, WindowOk, awaits, held_back, window_at}
+use Rattle.pm_sim.specs.Ready.{InWindow, IsAbove, Ready, WindowOk, awaits, held_back, window_at}
 use Rattle.pm_sim.specs.Sims.{In, NotPast, is_past}
 use Rattle.pm_sim.specs.Worlds.{Mail, World, after_event, after_events, commit, committed, committed_from, first_world, is_legal, is_legal_run, least_line, line_le, mail, may_commit}
 use Rattle.pm_sim.specs.Worlds.Process.{AtAgent}
@@ -236,11 +236,12 @@ module _ (p : Plan) (fit : PlanFits p)
 -- a window of at least 1 behind a Commit at the least line keeps no letter of least stamp back
 pub window_ok : (W : ℕ) (w : World)
     → 1 ≤ W → w.line ≡ least_line w → (mail w.links ≡ [] → ⊥) → WindowOk w (Some (window_at W w.line))
-window_ok W w one e ne = (e, (let r = least_in (mail w.links) ne in at w.line (stamp_of r.0.message) (e ∙ r.2)))
+window_ok W w one e ne =
+    subst (IsAbove (window_at W w.line)) e (let r = least_in (mail w.links) ne in at w.line (stamp_of r.0.message) (e ∙ r.2))
   where
-    at : (l : Line) (s : Stamp) → l ≡ line.At s → TimeBelow l (window_at W l)
-    at (line.At t) s f = omega arith
-    at line.End s f = absurd (cc)
+    at : (l : Line) (s : Stamp) → l ≡ line.At s → IsAbove (window_at W l) l
+    at (line.At t) s f = past_true (window_at W (line.At t)) t (inl (omega arith))
+    at line.End s f = tt
 
 -- so at the begin of each epoch behind a Commit some link's first letter may be delivered
 pub window_ready : (p : Plan) → PlanFits p → (W : ℕ) (es : List Event)

@@ -18,9 +18,10 @@ use Rattle.pm_sim.proofs.Letters.{delivered_bag, in_map, map_in, message_of, tak
 use Rattle.pm_sim.proofs.Places.{Sim, clp_at, lift}
 use Rattle.pm_sim.proofs.Readies.{least_in}
 use Rattle.pm_sim.proofs.Sends.{Out}
+use Rattle.pm_sim.proofs.Stamps.{past_true}
 use Rattle.pm_sim.proofs.Takings.{Linked, agent_out, commit_linked, deliver_linked, first_linked, hub_out, names_any}
 use Rattle.pm_sim.proofs.Wholes.{Whole, commit_whole, deliver_whole, first_whole, whole_run}
-use Rattle.pm_sim.specs.Ready.{TimeBelow, WindowOk}
+use Rattle.pm_sim.specs.Ready.{IsAbove, WindowOk}
 use Rattle.pm_sim.specs.Routings.{FitsAt, mail_to}
 use Rattle.pm_sim.specs.Sims.{AtMost, In, MailOk, NotPast}
 use Rattle.pm_sim.specs.Worlds.{Mail, Posted, Process, Taken, World, actor_of, addressed, after_events, arrives, clps_of, commit, committed, deliver, delivered, first_world, handed, home, hub_of, is_legal, is_legal_run, least_line, mail, may_commit, number, process, take_from}
@@ -175,14 +176,6 @@ least_time p fit es l ne = (let r = least_in (mail (after_events p (first_world 
 -- line's, keeps no letter of least stamp back
 pub window_high : (p : Plan) → PlanFits p → (es : List Event)
     → is_legal_run p (first_world p) es ≡ true → (mail (after_events p (first_world p) es).links ≡ [] → ⊥)
-    → (u : Stamp) → (after_events p (first_world p) es).line ≡ least_line (after_events p (first_world p) es)
-    → p.horizon < u.time → WindowOk (after_events p (first_world p) es) (Some (line.At u))
-window_high p fit es l ne u e lt =
-    (e, (let o = least_time p fit es l ne in at (after_events p (first_world p) es).line o.0 (e ∙ o.1) o.2))
-  where
-    at : (k : Line) (s : Stamp) → k ≡ line.At s → s.time ≤ p.horizon → TimeBelow k (line.At u)
-    at (line.At t) s f le = (let g : t.time ≡ s.time = time_same t s f in omega arith)
-      where
-        time_same : (a b : Stamp) → line.At a ≡ line.At b → a.time ≡ b.time
-        time_same a b h = cc
-    at line.End s f le = absurd (cc)
+    → (u : Stamp) → p.horizon < u.time → WindowOk (after_events p (first_world p) es) (Some (line.At u))
+window_high p fit es l ne u lt = (let o = least_time p fit es l ne in
+    subst (IsAbove (line.At u)) (sym o.1) (past_true (line.At u) o.0 (inl (omega (arith, lt, o.2)))))

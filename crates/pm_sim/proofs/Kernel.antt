@@ -62,7 +62,7 @@ idle_is_done p es h = idle_done p (plan_fits p h) es
 pub windows_ok : (p : Plan) (es : List Event) → IsValid p → WindowsAreOk p es
 windows_ok p es h l e ne = record {
   ahead = λ width one. window_ok width (after_events p (first_world p) es) one e ne;
-  past = λ s lt. window_high p (plan_fits p h) es l ne s e lt;
+  past = λ s lt. window_high p (plan_fits p h) es l ne s lt;
 }
 
 pub journal_grows : (p : Plan) (e n : ℕ) (j ds : List Event) → IsValid p → JournalGrows p e n j ds

@@ -19,7 +19,7 @@ use Rattle.pm_sim.proofs.Stamps.{nums_same, past_true}
 use Rattle.pm_sim.proofs.Takings.{LinkOk, Suits}
 use Rattle.pm_sim.proofs.Wires.{between_mail}
 use Rattle.pm_sim.specs.Bounds.{between}
-use Rattle.pm_sim.specs.Ready.{IdleIsDone, Ready, SomeIsReady, TimeBelow, WindowOk, awaits, held_back, kept_back}
+use Rattle.pm_sim.specs.Ready.{IdleIsDone, IsAbove, Ready, SomeIsReady, WindowOk, awaits, held_back, kept_back}
 use Rattle.pm_sim.specs.Routings.{mail_to}
 use Rattle.pm_sim.specs.Sims.{In, is_past, num_of, vars_of}
 use Rattle.pm_sim.specs.Waking.{Last}
@@ -55,13 +55,8 @@ module _ (p : Plan) (w : World) (awake : Awake p w) (windows : Process → Optio
   free (AtClp c) from x m rest e i l ok = refl
   free (AtAgent a) from x m rest e i l ok = by (windows (AtAgent a)) m ok e i
     where
-      past : (k : Line) (s : Stamp)
-          → w.line ≡ least_line w → TimeBelow w.line k → least_line w ≡ line.At s → is_past k s ≡ true
-      past k s el below ls = at k (subst (λ z. TimeBelow z k) (el ∙ ls) below)
-        where
-          at : (k : Line) → TimeBelow (line.At s) k → is_past k s ≡ true
-          at (line.At t) lt = past_true (line.At t) s (inl lt)
-          at line.End u = refl
+      past : (k : Line) (s : Stamp) → IsAbove k (least_line w) → least_line w ≡ line.At s → is_past k s ≡ true
+      past k s above ls = subst (IsAbove k) ls above
 
       -- an awaited Wake is alone there
       alone : (y : Awaited) (n : Num) (s : Stamp)
@@ -74,7 +69,7 @@ module _ (p : Plan) (w : World) (awake : Awake p w) (windows : Process → Optio
               (let r : rest ≡ [] = cc in elim i [ inl f ↦ ap stamp_of f | inr j ↦ absurd (subst (In x) r j) ])
           go (z ∷ pre) g others = absurd (others (message.Wake n s) (inl (cc)) en)
 
-      wake : (k : Line) (n : Num) (s : Stamp) → (w.line ≡ least_line w) × TimeBelow w.line k
+      wake : (k : Line) (n : Num) (s : Stamp) → IsAbove k (least_line w)
           → between (AtAgent a) from w.links ≡ message.Wake n s ∷ rest → In x (message.Wake n s ∷ rest)
           → (o : Option Awaited) → (get_or w.agents a no_agent).awaited ≡ o → (awaits n o && not (is_past k s)) ≡ false
       wake k n s ok e i None eo = refl
@@ -87,7 +82,7 @@ module _ (p : Plan) (w : World) (awake : Awake p w) (windows : Process → Optio
             let last : Last y (message.Wake n s ∷ rest) =
             subst (Last y) (sym (ap (λ z. between (AtAgent a) z w.links) own) ∙ e) (awake.last a y eo) in
             let st : stamp_of x ≡ s = alone y n s en last i in
-            let g : is_past k s ≡ true = past k s ok.0 ok.1 (l ∙ ap line.At st) in
+            let g : is_past k s ≡ true = past k s ok (l ∙ ap line.At st) in
             rw (f, g) refl)
       ]
 

@@ -40,16 +40,15 @@ abbrev pub held_back : World → (Process → Option Line) → Process → Messa
 held_back w windows (AtClp c) m = false
 held_back w windows (AtAgent a) m = kept_back (windows (AtAgent a)) (agent_of w a).awaited m
 
--- the line's time is below the window's
-abbrev pub TimeBelow : Line → Line → Type 0
-TimeBelow (line.At l) (line.At k) = l.time < k.time
-TimeBelow (line.At l) line.End = Unit {0}
-TimeBelow line.End k = ⊥
+-- the window is above the line, or the line is the end
+abbrev pub IsAbove : Line → Line → Type 0
+IsAbove k (line.At s) = is_past k s ≡ true
+IsAbove k line.End = Unit {0}
 
 -- a window that keeps no message of least stamp back
 abbrev pub WindowOk : World → Option Line → Type 0
 WindowOk w None = Unit {0}
-WindowOk w (Some k) = (w.line ≡ least_line w) × TimeBelow w.line k
+WindowOk w (Some k) = IsAbove k (least_line w)
 
 -- the first message of a link that may be delivered
 pub record Ready (w : World) (windows : Process → Option Line) : Type 0 where
@@ -99,7 +98,7 @@ IdleIsDone p es =
     IsIdle (after_events p (first_world p) es) windows →
     mail (after_events p (first_world p) es).links ≡ []
 
--- a window of at least 1 behind the least line's time is such a window; so is each of a time above the horizon
+-- a window of a width of at least 1 behind the least line is such a window; so is each of a time past the horizon
 pub record WindowsOk (p : Plan) (es : List Event) : Type 0 where
   pub ahead : (width : ℕ) → 1 ≤ width
       → WindowOk (after_events p (first_world p) es) (Some (window_at width (after_events p (first_world p) es).line))

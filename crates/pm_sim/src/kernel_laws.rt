@@ -40,8 +40,8 @@ pub fn who_waits_is_woken()
     ensures woken { (p : Plan) (es : Seq Event) → IsValid p → WhoWaitsIsWoken p es }
 {}
 
-/// Where a message is on its way, the first message of some link may be delivered, whatever windows above the time of
-/// the least line keep awaited Wakes back.
+/// Where a message is on its way, the first message of some link may be delivered, whatever windows above the least
+/// line keep awaited Wakes back.
 pub fn some_message_is_ready()
     ensures ready { (p : Plan) (es : Seq Event) → IsValid p → SomeIsReady p es }
 {}
@@ -51,8 +51,8 @@ pub fn idle_is_done()
     ensures done { (p : Plan) (es : Seq Event) → IsValid p → IdleIsDone p es }
 {}
 
-/// Windows that may be used behind a Commit at the least line: of a width of at least 1, and of each time past the
-/// horizon.
+/// Windows that are above the least line: behind a Commit at it each of a width of at least 1, and each of a time past
+/// the horizon.
 pub fn windows_are_ok()
     ensures windows { (p : Plan) (es : Seq Event) → IsValid p → WindowsAreOk p es }
 {}
