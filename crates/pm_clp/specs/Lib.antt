@@ -1,4 +1,5 @@
 pub mod Clps
+pub mod First
 pub mod Kept
 pub mod Sample
 pub mod Takes

@@ -6,6 +6,7 @@ use Rattle.pm_base.specs.declared.layout.ClassRow.{ClassRow}
 use Rattle.pm_base.specs.declared.rows.GiveRow.{GiveRow}
 use Rattle.pm_base.specs.declared.rows.Parts.{Parts}
 use Rattle.pm_base.specs.declared.rows.PutRow.{PutRow}
+use Rattle.pm_base.specs.declared.stamp.Line.TheVariants as line
 use Rattle.pm_base.specs.declared.stamp.Num.{Num}
 use Rattle.pm_base.specs.declared.stamp.Stamp.{Stamp}
 use Rattle.pm_base.specs.declared.value.Change.TheVariants as change
@@ -16,7 +17,7 @@ use Rattle.pm_message.specs.declared.Message.{Message}
 use Rattle.pm_message.specs.declared.Message.TheVariants as message
 use Rattle.pm_routes.specs.declared.way.Way.{Way}
 use Rattle.pm_routes.specs.declared.way.Way.TheVariants as way
-use Rattle.pm_clp.specs.Clps.{ClpSends, ClpState, Hub, clp_after, first_clp}
+use Rattle.pm_clp.specs.Clps.{ClpSends, ClpState, Hub, clp_after, clp_committed, first_clp, first_parts}
 use Rattle.pm_queries.specs.declared.registered.Sent.{Sent}
 
 -- the moment of this time and agent
@@ -113,6 +114,23 @@ moved = record {
   reads = [];
 }
 
+-- a record with agent 1's write and its withdrawal
+abbrev pub undone : Parts
+undone = record {
+  base = val 0;
+  puts = record { num = num 1 1; stamp = at 3 1; change = change.Set (val 7) } ∷ [];
+  cuts = record { num = num 1 1; stamp = at 3 1 } ∷ [];
+  reads = [];
+}
+
+-- agent 0 writes x at (5,0)
+abbrev pub own_write : ℕ → Message
+own_write x = message.Put (num 0 2) (at 5 0) 0 (change.Set (val x))
+
+-- the process after a Commit at this moment
+abbrev pub committed : Stamp → ClpState → ClpState
+committed t s = clp_committed (line.At t) s
+
 -- moves
 pub record SampleMoves : Type 0 where
   -- a write from port 0 is told at both ports, and draws the record there
@@ -121,9 +139,16 @@ pub record SampleMoves : Type 0 where
   -- where it doesn't move, the record stays
   pub stays : sends 1 0 write (home 0) ≡ to 0 (grows (at 3 1) None 7) ∷ to 5 (grows (at 3 1) None 7) ∷ []
   -- once it left, a write goes on to where it is
-  pub goes_on : sends 1 9 withdrawal (after 1 0 write (home 1)) ≡ to 0 withdrawal ∷ []
+  pub goes_on : sends 1 9 (own_write 8) (after 1 0 write (home 1)) ≡ to 0 (own_write 8) ∷ []
+  pub cut_goes_on : sends 1 9 withdrawal (after 1 0 write (home 1)) ≡ to 0 withdrawal ∷ []
+  -- the line is the floor of what leaves
+  pub floor : sends 1 0 write (committed (at 2 0) (home 1)) ≡ to 0 (grows (at 3 1) None 7) ∷
+      to 5 (grows (at 3 1) None 7) ∷ to 0 (message.Move 0 (at 2 0) moved) ∷ []
   -- a record that comes is watched at once by the query that is registered
   pub passes : sends 1 0 (message.Move 0 (at 0 0) written) (after 1 9 (asks 0 whole) away) ≡ hit 1 4 ∷ []
+  -- and then is here; the port that it came from knows its values, and isn't told of one of them again
+  pub arrives : sends 1 9 (own_write 4) (after 1 0 (message.Move 0 (at 0 0) written) away) ≡
+      to 5 (grows (at 5 0) None 4) ∷ []
 
 -- class queries
 pub record SampleQueries : Type 0 where
@@ -131,12 +156,16 @@ pub record SampleQueries : Type 0 where
   pub goes_on : sends 1 9 (asks 0 whole) away ≡ to 0 (asks 0 whole) ∷ []
   -- else it is done at once
   pub pruned : sends 1 9 (asks 0 (across 40 60)) away ≡ to 9 done ∷ []
+  -- so it is where a value may stand there later than at its stamp alone
+  pub too_late : sends 1 9 (asks 0 (across 40 60)) (after 1 0 (grows (at 9 0) None 50) away) ≡ to 9 done ∷ []
   -- and goes out later, when more may stand there, of which the other port is told
   pub caught_up : sends 1 0 (grows (at 0 0) None 50) (after 1 9 (asks 0 (across 40 60)) away) ≡
       to 0 (asks 0 (across 40 60)) ∷ to 5 (grows (at 0 0) None 50) ∷ []
   -- once only
   pub once : sends 1 0 (grows (at 0 0) None 50)
       (after 1 0 (grows (at 0 0) None 50) (after 1 9 (asks 0 (across 40 60)) away)) ≡ []
+  -- a Grow that tells nothing new sends nothing
+  pub nothing_new : sends 1 0 (grows (at 2 0) None 50) (after 1 0 (grows (at 0 0) None 50) away) ≡ []
   -- asked again it does nothing
   pub known : clp_after (place 1) 9 (asks 0 whole) (after 1 9 (asks 0 whole) away) ≡
       record { clp = after 1 9 (asks 0 whole) away; sent = [] }
@@ -157,10 +186,26 @@ pub record SampleWrites : Type 0 where
   pub withdrawn : sends 1 0 withdrawal (after 1 0 write (after 1 9 reads (home 0))) ≡ hit 3 0 ∷ []
   -- a withdrawal before its write
   pub early : sends 1 0 write (after 1 0 withdrawal (after 1 9 reads (home 0))) ≡ []
+  -- the record is the same in either order
+  pub put_first : (after 1 0 withdrawal (after 1 0 write (home 0))).records ≡ Some undone ∷ []
+  pub cut_first : (after 1 0 write (after 1 0 withdrawal (home 0))).records ≡ Some undone ∷ []
+  -- a write that was received already does nothing
+  pub again : sends 1 0 write (after 1 0 write (after 1 9 reads (home 0))) ≡ []
   -- a query's hits, and that it is done
   pub asked : sends 1 9 (asks 0 whole) (home 0) ≡ hit 1 0 ∷ to 9 done ∷ []
   -- it sees a write below its stamp and none at it
   pub below : sends 1 0 write (after 1 9 (asks 0 whole) (home 0)) ≡
       hit 2 7 ∷ to 0 (grows (at 3 1) None 7) ∷ to 5 (grows (at 3 1) None 7) ∷ []
-  pub own : sends 1 9 (message.Put (num 0 2) (at 5 0) 0 (change.Set (val 8))) (after 1 9 (asks 0 whole) (home 0)) ≡
+  pub own : sends 1 9 (own_write 8) (after 1 9 (asks 0 whole) (home 0)) ≡
       to 0 (grows (at 5 0) None 8) ∷ to 5 (grows (at 5 0) None 8) ∷ []
+
+-- Commits
+pub record SampleCommits : Type 0 where
+  -- at the end a record is its last value
+  pub forgets : (clp_committed line.End (after 1 0 write (after 1 9 reads (home 0)))).records ≡
+      Some (first_parts (val 7)) ∷ []
+  -- what isn't below the line stays
+  pub keeps : (committed (at 3 1) (after 1 0 write (home 0))).records ≡ (after 1 0 write (home 0)).records
+  pub query_stays : (committed (at 5 0) (after 1 9 (asks 0 whole) away)).queries ≡
+      (after 1 9 (asks 0 whole) away).queries
+  pub query_goes : (committed (at 5 1) (after 1 9 (asks 0 whole) away)).queries ≡ []

@@ -26,17 +26,17 @@ use std::marker::Model;
 /// A communication process between messages.
 #[derive(Debug, Drop)]
 pub struct Clp {
-    ports: List<u32>,
-    to_agents: List<u32>,
-    layout: Layout,
-    records: Records,
-    routes: Routes,
-    line: Line,
-    queries: Queries,
-    bound: Table,
-    told: Table,
-    made: u64,
-    spoilt: bool,
+    pub(crate) ports: List<u32>,
+    pub(crate) to_agents: List<u32>,
+    pub(crate) layout: Layout,
+    pub(crate) records: Records,
+    pub(crate) routes: Routes,
+    pub(crate) line: Line,
+    pub(crate) queries: Queries,
+    pub(crate) bound: Table,
+    pub(crate) told: Table,
+    pub(crate) made: u64,
+    pub(crate) spoilt: bool,
 }
 
 impl Model for Clp {

@@ -3,7 +3,7 @@ ghost use Rattle.std.specs.Prelude.{◌≡◌, false, ℕ};
 ghost use Rattle.pm_base.specs.declared.stamp.Num.{Num as TheNum};
 ghost use Rattle.pm_base.specs.declared.stamp.Stamp.{Stamp as TheStamp};
 ghost use Rattle.pm_clp.specs.Clps.{ClpState, Hub, clp_after, no_clp_sends};
-ghost use Rattle.pm_clp.specs.Sample.{SampleMoves, SampleQueries, SampleWrites};
+ghost use Rattle.pm_clp.specs.Sample.{SampleCommits, SampleMoves, SampleQueries, SampleWrites};
 ghost use Rattle.pm_clp.specs.Takes.{takes};
 ghost use Rattle.pm_message.specs.declared.Message.TheVariants as message;
 
@@ -28,4 +28,9 @@ pub fn sample_queries()
 /// Worked rows: writes and withdrawals, in either order, below a read and at its stamp.
 pub fn sample_writes()
     ensures { SampleWrites }
+{}
+
+/// Worked rows: a Commit forgets what is below its line, and nothing else.
+pub fn sample_commits()
+    ensures { SampleCommits }
 {}

@@ -3,8 +3,12 @@
 #![tactic(auto)]
 
 mod clp;
+mod firsts;
 mod laws;
 mod records;
+mod takes;
 
-pub use laws::{no_wake_is_taken, sample_moves, sample_queries, sample_writes};
+pub use clp::Clp;
+pub use firsts::ClpParts;
+pub use laws::{no_wake_is_taken, sample_commits, sample_moves, sample_queries, sample_writes};
 pub use pm_queries::{Registered, Sent};

@@ -7,8 +7,10 @@ unfolding overlap
 returns c = record {
   goes_on = refl;
   pruned = refl;
+  too_late = refl;
   caught_up = refl;
   once = refl;
+  nothing_new = refl;
   known = refl;
   not_last = refl;
   last = refl;
