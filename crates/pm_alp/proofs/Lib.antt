@@ -1,1 +1,6 @@
 pub mod AgentLaws
+pub mod Few
+pub mod Going
+pub mod Places
+pub mod Puttings
+pub mod Taking

@@ -1,9 +1,15 @@
-//! An agent's side of the optimistic core: it runs ahead on what it was told, keeps each step until it is committed, and
-//! goes back where a hit changes.
+//! An agent's side of the optimistic core: it runs ahead on what it was told, keeps each step until it is committed,
+//! and goes back where a hit changes.
 #![tactic(auto)]
 
 mod agent;
+mod alp;
 mod laws;
+mod parts;
+mod state;
+mod takes;
 
 pub use agent::{Agent, Awaited};
+pub use alp::Alp;
 pub use laws::{an_older_turn_changes_nothing, no_wake_without_waiting};
+pub use parts::AlpParts;
