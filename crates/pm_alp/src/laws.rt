@@ -1,6 +1,7 @@
 // Laws of the definitions.
 ghost use Rattle.std.specs.Prelude.{◌≡◌, ◌≤◌, Some};
 ghost use Rattle.pm_alp.specs.Agents.{Actor, agent_after, no_agent, no_sends};
+ghost use Rattle.pm_alp.specs.Sample.{SampleEnds, SampleQueries, SampleRollbacks, SampleSenses};
 ghost use Rattle.pm_alp.specs.declared.agent.Agent.{Agent as TheAgent};
 ghost use Rattle.pm_base.specs.declared.rows.GiveRow.{GiveRow as TheGive};
 ghost use Rattle.pm_base.specs.declared.stamp.Num.{Num as TheNum};
@@ -19,4 +20,24 @@ pub fn no_wake_without_waiting()
 pub fn an_older_turn_changes_nothing()
     ensures { (p : Actor) (a : TheAgent) (r : TheGive) (spot : Spot) → find r.num a.steps ≡ Some spot →
         r.turn ≤ kept_turn r.var spot.sense.hits → agent_after p a (message.Give r) ≡ no_sends a }
+{}
+
+/// Worked rows: steps, and a rollback to the second of three.
+pub fn sample_rollbacks()
+    ensures { SampleRollbacks }
+{}
+
+/// Worked rows: a rollback in the middle of a step.
+pub fn sample_senses()
+    ensures { SampleSenses }
+{}
+
+/// Worked rows: a query of a class that is done late.
+pub fn sample_queries()
+    ensures { SampleQueries }
+{}
+
+/// Worked rows: what a line hands out, and an agent that retires.
+pub fn sample_ends()
+    ensures { SampleEnds }
 {}

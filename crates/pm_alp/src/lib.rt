@@ -11,5 +11,8 @@ mod takes;
 
 pub use agent::{Agent, Awaited};
 pub use alp::Alp;
-pub use laws::{an_older_turn_changes_nothing, no_wake_without_waiting};
+pub use laws::{
+    an_older_turn_changes_nothing, no_wake_without_waiting, sample_ends, sample_queries,
+    sample_rollbacks, sample_senses,
+};
 pub use parts::AlpParts;
