@@ -1,5 +1,5 @@
 -- What is kept of records: a letter to one of them.
-use Rattle.std.proofs.Common.{◌≡◌, ℕ, zero, suc, ◌+◌, ◌<◌, ◌≤◌, ◌^◌, ◌⊎◌, inl, inr, Bool, true, false, not, List, [], ◌∷◌, map, get_or, set, length, Option, Some, None, Result, Ok, Err, ◌++◌, take, drop, refl, arith, ap, ap₂, sym, ◌∙◌, subst}
+use Rattle.std.proofs.Common.{◌≡◌, ℕ, zero, suc, ◌+◌, ◌<◌, ◌≤◌, ◌^◌, ◌⊎◌, inl, inr, Bool, true, false, List, [], ◌∷◌, map, get_or, set, length, Option, Some, None, Result, Ok, Err, ◌++◌, take, drop, refl, arith, ap, ap₂, sym, ◌∙◌, subst}
 use Rattle.std.specs.List.{AllByRecursion}
 use Rattle.std.specs.Result.{IfOk, OnOk, OnErr}
 use Rattle.std.proofs.Math.ListN.{get_or-map}
@@ -14,7 +14,7 @@ use Rattle.pm_base.specs.declared.stamp.Num.{Num}
 use Rattle.pm_base.specs.declared.stamp.Stamp.{Stamp}
 use Rattle.pm_base.specs.declared.value.Value.{Value}
 use Rattle.pm_base.specs.declared.value.Window.{Window}
-use Rattle.pm_periods.specs.Records.{HaveTurns, IsSettled, Record, after_cut, after_put, after_watch, changed_unless, first_read, fresh_read, given_when, hit_by, read_stays, trimmed, is_stale, record_value, refreshed, with_cut, with_parts, with_put, with_read}
+use Rattle.pm_periods.specs.Records.{HaveTurns, IsSettled, Record, after_cut, after_put, after_watch, first_read, fresh_read, given_when, hit_by, read_stays, trimmed, is_stale, record_value, refreshed, with_cut, with_parts, with_put, with_read}
 use Rattle.pm_periods.specs.Rows.{add_row, cut_key, has_num, key_lt, put_key, read_key}
 use Rattle.pm_periods.proofs.Ordered.{each_filter}
 use Rattle.pm_routes.specs.declared.way.Way.{Way}

@@ -1,5 +1,5 @@
 -- What leaves a process, and what it catches up.
-use Rattle.std.proofs.Common.{◌≡◌, ℕ, Bool, true, false, List, [], ◌∷◌, ◌++◌, map, Option, Some, None, Result, Ok, Err, refl, ap, sym, ◌∙◌, subst, filter, set}
+use Rattle.std.proofs.Common.{◌≡◌, ℕ, Bool, true, false, List, ◌++◌, map, Option, Some, None, Result, Ok, Err, refl, ap, sym, ◌∙◌, subst, filter, set}
 use Rattle.std.specs.Result.{OnOk}
 use Rattle.std.proofs.lemmas.List.{append-nil, set-get_or}
 use Rattle.pm_base.specs.declared.rows.Parts.{Parts}
@@ -10,7 +10,7 @@ use Rattle.pm_queries.specs.declared.registered.Registered.{Registered}
 use Rattle.pm_queries.specs.declared.registered.Sent.{Sent}
 use Rattle.pm_routes.specs.Routings.{counted, is_drawn, place_of}
 use Rattle.pm_tables.specs.Tables.{known_in}
-use Rattle.pm_clp.specs.Clps.{ClpSends, ClpState, Hub, and_then, catch_up, class_at, counting, grow_bound, leaves, on_grow, rec_at, tell, with_count}
+use Rattle.pm_clp.specs.Clps.{ClpState, Hub, and_then, catch_up, class_at, counting, grow_bound, leaves, on_grow, rec_at, tell, with_count}
 use Rattle.pm_clp.specs.Views.{ClpView, Did, leave, others, sent_off}
 use Rattle.pm_clp.proofs.Steps.{did-then}
 

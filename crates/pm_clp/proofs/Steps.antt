@@ -1,18 +1,21 @@
 -- One action of a process after another.
 use Rattle.pm_queries.specs.declared.registered.Sent.{Sent}
-use Rattle.std.proofs.Common.{◌≡◌, ℕ, suc, ◌+◌, ◌<◌, ◌≤◌, Bool, true, false, List, [], ◌∷◌, ◌++◌, map, get_or, drop, length, Option, Some, None, Result, Ok, Err, refl, arith, ap, ap₂, sym, ◌∙◌, subst, append_assoc}
+use Rattle.std.proofs.Common.{◌≡◌, ℕ, suc, Bool, List, ◌++◌, map, set, Option, Some, None, Result, Ok, Err, ap, ap₂, sym, ◌∙◌, subst, append_assoc}
 use Rattle.std.specs.Result.{OnOk}
 use Rattle.std.proofs.lemmas.List.{append-nil}
 use Rattle.pm_base.specs.declared.rows.GiveRow.{GiveRow}
 use Rattle.pm_base.specs.declared.rows.Parts.{Parts}
 use Rattle.pm_base.specs.declared.value.Period.{Period}
 use Rattle.pm_ranges.specs.Known.{Known}
-use Rattle.pm_routes.specs.Routings.{place_of}
+use Rattle.pm_base.specs.declared.stamp.Line.{Line}
+use Rattle.pm_periods.specs.Periods.{periods_from}
+use Rattle.pm_queries.specs.declared.registered.Registered.{Registered}
+use Rattle.pm_routes.specs.Routings.{Routing, arrived, place_of}
 use Rattle.pm_tables.specs.Tables.{grow_periods, grow_periods_in}
 use Rattle.pm_tables.proofs.Shapes.{grow_periods-in}
-use Rattle.pm_clp.specs.Clps.{Answered, ClpSends, ClpState, Hub, and_then, at_record, no_clp_sends, on_record, rec_at, to_agent}
+use Rattle.pm_clp.specs.Clps.{Answered, ClpSends, ClpState, Hub, and_then, at_record, class_at, installed, no_clp_sends, on_record, rec_at, to_agent}
 use Rattle.pm_clp.specs.Kept.{Kept, gives_after, kept_after, recs_after}
-use Rattle.pm_clp.specs.Views.{ClpView, Did, DidRaise, Leads}
+use Rattle.pm_clp.specs.Views.{ClpView, Did, DidRaise, Leads, state_of}
 
 -- what follows from what a call promises where it succeeds
 pub on_ok : {X E : Type 0} (res : Result X E) {P Q : Type 0} → (P → Q) → OnOk res P → OnOk res Q
@@ -74,3 +77,16 @@ pub grown_off : (ports : List ℕ) (d k class place : ℕ) (rs periods : List Pe
     → place ≡ place_of ports d → k ≡ class → rs ≡ periods → new ≡ grow_periods ports d class periods b
 grown_off ports d k class place rs periods b new e p c q =
     e ∙ ap (λ z. grow_periods_in z k rs b) p ∙ ap₂ (λ x y. grow_periods_in (place_of ports d) x y b) c q ∙ sym (grow_periods-in ports d class periods b)
+
+-- what is seen of a process at which a record was put in
+pub put_in : (h : Hub) (records : Kept) (routes : Routing) (line : Line) (queries : List Registered) (bound told : List (List Known)) (k : Kept) (way : Routing) (grown : List (List Known))
+    (made : ℕ) (spoilt : Bool) (from v : ℕ) (held r : Parts) (now : ClpView) → record { hub = h; clp = state_of records routes line queries bound told; limit = records.limit; made = made; spoilt = spoilt } ≡ now
+    → k ≡ record { recs = set records.recs v (Some held); limit = records.limit } → way ≡ arrived routes v → grown ≡ grow_periods h.ports from (class_at h v) (periods_from r None) told → held ≡ r
+    → record { hub = h; clp = state_of k way line queries bound grown; limit = k.limit; made = made; spoilt = spoilt } ≡ record now { clp = installed now.hub from v r now.clp }
+put_in h records routes line queries bound told k way grown made spoilt from v held r now is e w g p =
+    subst (λ (z : ClpView). view k way grown ≡ record z { clp = installed z.hub from v r z.clp }) is
+    (ap (λ q. view q way grown) e ∙ ap₂ (view (record { recs = set records.recs v (Some held); limit = records.limit })) w g
+    ∙ ap (λ q. view (record { recs = set records.recs v (Some q); limit = records.limit }) (arrived routes v) (grow_periods h.ports from (class_at h v) (periods_from r None) told)) p)
+  where
+    view : Kept → Routing → List (List Known) → ClpView
+    view q y z = record { hub = h; clp = state_of q y line queries bound z; limit = q.limit; made = made; spoilt = spoilt }

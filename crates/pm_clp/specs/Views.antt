@@ -1,10 +1,9 @@
 -- What contracts see of a communication process.
 use Rattle.pm_queries.specs.declared.registered.Sent.{Sent}
 use Rattle.pm_queries.specs.declared.registered.Registered.{Registered}
-use Rattle.pm_queries.specs.Queries.{without}
+use Rattle.pm_queries.specs.Queries.{ask_of, without}
 use Rattle.std.specs.Prelude.{ℕ, ◌+◌, ◌^◌, ◌≤◌, ◌≡◌, suc, Bool, true, false, List, [], ◌∷◌, ◌++◌, length, get_or, Option, Some, None}
 use Rattle.pm_base.specs.Layouts.{IsLayout, var_count}
-use Rattle.pm_base.specs.declared.layout.ClassRow.{ClassRow}
 use Rattle.pm_base.specs.declared.layout.Layout.{Layout}
 use Rattle.pm_base.specs.declared.stamp.Line.{Line}
 use Rattle.pm_base.specs.declared.rows.GiveRow.{GiveRow}
@@ -15,7 +14,8 @@ use Rattle.pm_ranges.specs.Known.{Known}
 use Rattle.pm_periods.specs.Periods.{periods_from}
 use Rattle.pm_routes.specs.Routings.{Routing, left}
 use Rattle.pm_tables.specs.Tables.{grow_periods}
-use Rattle.pm_clp.specs.Clps.{ClpSends, ClpState, Hub, class_at, floor_of, leaves, rec_at}
+use Rattle.pm_clp.specs.Clps.{ClpSends, ClpState, Hub, and_then, at_record, class_at, floor_of, leaves, no_clp_sends, rec_at}
+use Rattle.pm_clp.specs.Clps.{take_watch}
 use Rattle.pm_clp.specs.Kept.{Kept}
 
 -- what it knows of its place, what it keeps, a number that no turn of a read is above, how many deliveries were made,
@@ -89,3 +89,17 @@ sent_off h v d r s = record {
 -- the record of the variable leaves for the port, where it is here
 abbrev pub leave : Hub → ℕ → ℕ → ClpState → ClpSends
 leave h v d s = leaves h true v d (rec_at s.records v) s
+
+-- the query on its way to the port
+abbrev pub asked_at : Registered → ℕ → Sent
+asked_at r d = record { to = d; message = ask_of r }
+
+-- the read of a query, by the variable's record; nothing where there is no query
+abbrev pub watch_at : Hub → ℕ → Option Registered → ClpState → ClpSends
+watch_at h v None s = no_clp_sends s
+watch_at h v (Some r) s = at_record h v (take_watch v r.num r.stamp r.window) s
+
+-- the reads of these queries, in order
+abbrev pub watch_each : Hub → ℕ → List Registered → ClpState → ClpSends
+watch_each h v [] s = no_clp_sends s
+watch_each h v (r ∷ rs) s = and_then (watch_at h v (Some r) s) (watch_each h v rs)

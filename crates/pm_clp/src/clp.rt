@@ -80,7 +80,7 @@ fn send_give(to_agents: &List<u32>, row: GiveRow, out: &mut List<Sent>) -> Resul
 
 impl Clp {
     // The variable's record, where it is here, takes a write.
-    fn record_put(
+    pub(crate) fn record_put(
         &mut self,
         alloc: Global,
         var: u32,
@@ -96,7 +96,7 @@ impl Clp {
     }
 
     // The variable's record, where it is here, takes a withdrawal.
-    fn record_cut(
+    pub(crate) fn record_cut(
         &mut self,
         alloc: Global,
         var: u32,
@@ -112,7 +112,7 @@ impl Clp {
     }
 
     // The variable's record, where it is here, takes a read.
-    fn record_watch(
+    pub(crate) fn record_watch(
         &mut self,
         alloc: Global,
         var: u32,
@@ -165,7 +165,7 @@ impl Clp {
     }
 
     // The place of a tree port.
-    fn place_of(&self, port: u32) -> usize
+    pub(crate) fn place_of(&self, port: u32) -> usize
         ensures { result ≡ place_of self.now.hub.ports port }
     {
         self.routes.place_of(port)
@@ -251,7 +251,7 @@ impl Clp {
     }
 
     // They are told what the variable is after the stamp.
-    fn telling(
+    pub(crate) fn telling(
         &mut self,
         alloc: Global,
         var: u32,
@@ -294,7 +294,7 @@ impl Clp {
     }
 
     // Each record here of the class's members takes the read.
-    fn watch_class(
+    pub(crate) fn watch_class(
         &mut self,
         alloc: Global,
         num: Num,
@@ -314,7 +314,7 @@ impl Clp {
     }
 
     // The ports to which the query goes on.
-    fn next_ports(
+    pub(crate) fn next_ports(
         &self,
         alloc: Global,
         from: u32,
@@ -335,7 +335,7 @@ impl Clp {
     }
 
     // A hit goes on towards its agent.
-    fn on_give(&mut self, row: GiveRow, out: &mut List<Sent>) -> Result<(), Memory>
+    pub(crate) fn on_give(&mut self, row: GiveRow, out: &mut List<Sent>) -> Result<(), Memory>
         ensures { OnOk result (Did self.old self.new out.old out.new
             (λ s. record { clp = s; sent = to_agent self.old.hub row ∷ [] })) }
     {
@@ -394,7 +394,7 @@ impl Clp {
 
     // An access to the variable is counted; it leaves for where that came from, once it belongs there.
     #[tactic(auto, using(crate::proofs::Leaves::counted_did, crate::proofs::Leaves::drawn_did))]
-    fn counting(
+    pub(crate) fn counting(
         &mut self,
         alloc: Global,
         var: u32,
@@ -412,7 +412,12 @@ impl Clp {
     }
 
     // A Finish takes its port off the query that it names.
-    fn on_finish(&mut self, from: u32, num: Num, out: &mut List<Sent>) -> Result<(), Memory>
+    pub(crate) fn on_finish(
+        &mut self,
+        from: u32,
+        num: Num,
+        out: &mut List<Sent>,
+    ) -> Result<(), Memory>
         ensures { OnOk result (Did self.old self.new out.old out.new (after_finish from num)) }
     {
         match self.queries.finish(num, from) {
@@ -423,7 +428,7 @@ impl Clp {
 
     // More may stand behind the port: queries catch up there, and the other ports are told.
     #[tactic(auto, using(crate::proofs::Leaves::grew_did))]
-    fn on_grow(
+    pub(crate) fn on_grow(
         &mut self,
         alloc: Global,
         port: u32,

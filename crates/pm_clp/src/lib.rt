@@ -3,9 +3,11 @@
 #![tactic(auto)]
 
 mod clp;
+mod deliver;
 mod firsts;
 mod laws;
 mod records;
+mod sends;
 mod takes;
 
 pub use clp::Clp;

@@ -1,4 +1,4 @@
-use Rattle.std.proofs.Common.{◌≡◌, ◌∙◌, ap, sym, subst}
+use Rattle.std.proofs.Common.{◌∙◌, ap, sym, subst}
 use Rattle.pm_routes.specs.Routings.{place_of}
 use Rattle.pm_clp.specs.Clps.{catch_up}
 use Rattle.pm_clp.specs.Views.{ClpView, Did, hub_of, state_of}

@@ -1,5 +1,4 @@
 use Rattle.std.proofs.Common.{subst, ap, ◌∙◌, ◌++◌, map}
-use Rattle.std.specs.Result.{OnOk}
 use Rattle.pm_clp.specs.Clps.{at_record, take_put}
 use Rattle.pm_clp.specs.Views.{ClpView, DidRaise, hub_of, state_of, give_to}
 use Rattle.pm_clp.proofs.Steps.{on_ok, raised-did}

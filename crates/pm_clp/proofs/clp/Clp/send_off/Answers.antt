@@ -1,9 +1,8 @@
-use Rattle.std.proofs.Common.{◌≡◌, ◌++◌, ◌∷◌, [], ◌∙◌, ap, ap₂, sym, subst, None}
+use Rattle.std.proofs.Common.{◌++◌, ◌∷◌, [], ◌∙◌, ap, ap₂, sym, subst, None}
 use Rattle.pm_message.specs.declared.Message.TheVariants as message
 use Rattle.pm_periods.specs.Periods.{periods_from}
 use Rattle.pm_routes.specs.Routings.{place_of}
 use Rattle.pm_clp.specs.Clps.{class_at}
-use Rattle.pm_clp.specs.Kept.{Kept}
 use Rattle.pm_clp.specs.Views.{ClpView, Did, hub_of, sent_off, state_of}
 use Rattle.pm_clp.proofs.Steps.{grown_off, on_ok}
 use Rattle.pm_clp.proofs.clp.Clp.send_off.Goals as goal

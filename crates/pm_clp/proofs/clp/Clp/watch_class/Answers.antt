@@ -1,4 +1,4 @@
-use Rattle.std.proofs.Common.{◌≡◌, ◌+◌, ◌-◌, ◌∙◌, ℕ, suc, arith, subst}
+use Rattle.std.proofs.Common.{◌≡◌, ◌+◌, ◌-◌, ◌∙◌, suc, arith, subst}
 use Rattle.pm_clp.specs.Clps.{ClpState, ClpSends, Hub, at_record, take_watch, watch_all}
 use Rattle.pm_clp.specs.Views.{Did, Leads}
 use Rattle.pm_clp.proofs.Steps.{did-hub, leads-step}
