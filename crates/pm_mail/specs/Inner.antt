@@ -10,7 +10,7 @@ use Rattle.pm_message.specs.declared.Message.{Message}
 use Rattle.pm_mail.specs.Links.{Link, is_link}
 use Rattle.pm_mail.specs.declared.lane.Ends.{Ends}
 use Rattle.pm_mail.specs.declared.lane.Lane.{Lane}
-use Rattle.pm_mail.specs.declared.mail.Mail.TheInside.{Inside}
+use Rattle.pm_mail.specs.declared.lanes.Lanes.TheInside.{Inside}
 
 -- the link that a lane keeps
 abbrev pub link_of : Lane → Link

@@ -1,2 +1,4 @@
+pub mod Headed
+pub mod Heads
 pub mod Inner
 pub mod Links

@@ -1,7 +1,8 @@
 -- The messages on their way between processes, which are named by their numbers.
-use Rattle.std.specs.Prelude.{ℕ, ◌==◌, ◌&&◌, Bool, if◌then◌else◌, List, [], ◌∷◌, ◌++◌}
-use Rattle.std.specs.Prelude.{map, drop, Option, Some, None}
+use Rattle.std.specs.Prelude.{ℕ, ◌==◌, ◌&&◌, ◌||◌, Bool, false, not, nat_lt, if◌then◌else◌, List, [], ◌∷◌, ◌++◌}
+use Rattle.std.specs.Prelude.{map, drop, Option, Some, None, option_map}
 use Rattle.std.specs.List.{flat_map, list_any}
+use Rattle.pm_base.specs.Stamps.{stamp_lt}
 use Rattle.pm_base.specs.declared.stamp.Stamp.{Stamp}
 use Rattle.pm_message.specs.Messages.{stamp_of}
 use Rattle.pm_message.specs.declared.Message.{Message}
@@ -53,3 +54,21 @@ taken to from (l ∷ ls) =
 -- the moments of all messages on their way
 abbrev pub moments : List Link → List Stamp
 moments ls = flat_map (λ (l : Link). map stamp_of l.messages) ls
+
+-- a message of one sender comes before one of another: by moment, then by sender
+abbrev pub comes_before : Stamp → ℕ → Stamp → ℕ → Bool
+comes_before s g t f = stamp_lt s t || (not (stamp_lt t s) && nat_lt g f)
+
+-- the same, of moments that may not be there: then it doesn't
+abbrev pub is_before_at : Option Stamp → ℕ → Option Stamp → ℕ → Bool
+is_before_at None g t f = false
+is_before_at (Some s) g None f = false
+is_before_at (Some s) g (Some t) f = comes_before s g t f
+
+-- the moment of the first message on that link, where there is one
+abbrev pub first_moment : ℕ → ℕ → List Link → Option Stamp
+first_moment to from ls = option_map stamp_of (first_of (waiting to from ls))
+
+-- of two links to a process, the first message of the one comes before that of the other
+abbrev pub is_before : ℕ → ℕ → ℕ → List Link → Bool
+is_before to g from ls = is_before_at (first_moment to g ls) g (first_moment to from ls) from

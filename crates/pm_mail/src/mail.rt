@@ -1,22 +1,24 @@
-ghost use Rattle.std.specs.Prelude.{◌≡◌, ◌++◌, ◌∷◌, ◌<◌, [], map, length, get_or, set, is_some, IfSome, OnOk, OnErr};
-ghost use Rattle.std.specs.Prelude.{slice_get, option_copied, option_map};
+ghost use Rattle.std.specs.Prelude.{◌≡◌, ℕ, [], false, IfSome, IfNone, IsSome, OnOk, OnErr};
+ghost use Rattle.std.specs.Prelude.{option_copied};
 ghost use Rattle.pm_base.specs.Stamps.{least_line_of};
-ghost use Rattle.pm_mail.specs.Inner.{IsIndexed, link_of, links_of, place_of};
-ghost use Rattle.pm_mail.specs.Links.{first_of, has_link, moments, opened, posted, taken, waiting};
+ghost use Rattle.pm_mail.specs.Headed.{IsHeaded};
+ghost use Rattle.pm_mail.specs.Links.{first_of, has_link, is_before, moments, opened, posted, taken, waiting};
 
-use crate::lane::{Ends, Lane, lower_by, push_at, take_at};
+use crate::heads::{Head, Heads};
+use crate::index::{enter, follow, leave, next_of};
+use crate::lanes::Lanes;
 use pm_base::{Line, Memory};
 use pm_message::Message;
 use std::alloc::Global;
-use std::collections::{BTreeMap, VecDeque};
+use std::collections::BTreeMap;
 use std::marker::Model;
 
 /// The messages on their way between processes, which are named by their numbers. Contracts see it as the links with
 /// their messages, in the order in which the links were opened.
 #[derive(Drop)]
 pub struct Mail {
-    lanes: Vec<Lane>,
-    places: BTreeMap<Ends, usize>,
+    links: Lanes,
+    heads: BTreeMap<u32, Heads>,
 }
 
 impl Model for Mail {
@@ -25,11 +27,11 @@ impl Model for Mail {
 
     ghost Value = { List Link };
 
-    ghost use Rattle.pm_mail.specs.Inner.{IsIndexed, links_of};
+    ghost use Rattle.pm_mail.specs.Headed.{IsHeaded};
 
-    ghost view = { links_of };
+    ghost view = { λ m. m.links };
 
-    ghost invariant = { IsIndexed };
+    ghost invariant = { IsHeaded };
 }
 
 impl Mail {
@@ -38,8 +40,8 @@ impl Mail {
         ensures { result ≡ [] }
     {
         Mail {
-            lanes: Vec::new(alloc),
-            places: BTreeMap::new(alloc),
+            links: Lanes::new(alloc),
+            heads: BTreeMap::new(alloc),
         }
     }
 
@@ -47,7 +49,7 @@ impl Mail {
     pub fn has_link(&self, to: u32, from: u32) -> bool
         ensures { result ≡ has_link to from self.now }
     {
-        self.place(to, from).is_some()
+        self.links.has_link(to, from)
     }
 
     /// Opens that link, where it isn't there yet.
@@ -55,10 +57,7 @@ impl Mail {
         ensures ok { OnOk result (self.new ≡ opened to from self.old) }
         ensures err { OnErr result (self.new ≡ self.old) }
     {
-        if self.has_link(to, from) {
-            return Ok(());
-        }
-        self.append(to, from, VecDeque::new(alloc))
+        self.links.open(alloc, to, from)
     }
 
     /// Puts a message at the end of its link, which is opened where it isn't there.
@@ -72,27 +71,26 @@ impl Mail {
         ensures ok { OnOk result (self.new ≡ posted to from message self.old) }
         ensures err { OnErr result (self.new ≡ self.old) }
     {
-        match self.place(to, from) {
-            Some(at) => {
-                push_at(&mut self.lanes, at, message)?;
-                Ok(())
-            }
-            None => {
-                let mut waiting = VecDeque::new(alloc);
-                waiting.push_back(message)?;
-                self.append(to, from, waiting)
-            }
+        if self.links.first(to, from).is_some() {
+            return self.links.post(alloc, to, from, message);
         }
+        let head = Head {
+            stamp: message.stamp(),
+            from,
+        };
+        enter(&mut self.heads, alloc, to, head)?;
+        if let Err(error) = self.links.post(alloc, to, from, message) {
+            leave(&mut self.heads, to, head);
+            return Err(error);
+        }
+        Ok(())
     }
 
     /// The message that is taken next from that link, where there is one. It takes no memory.
     pub fn first(&self, to: u32, from: u32) -> Option<&Message>
         ensures { option_copied result ≡ first_of (waiting to from self.now) }
     {
-        match self.place(to, from) {
-            Some(at) => self.lanes[at].waiting.front(),
-            None => None,
-        }
+        self.links.first(to, from)
     }
 
     /// Takes the first message off that link, where there is one. It takes no memory.
@@ -100,8 +98,32 @@ impl Mail {
         ensures message { result ≡ first_of (waiting to from self.old) }
         ensures links { self.new ≡ taken to from self.old }
     {
-        match self.place(to, from) {
-            Some(at) => take_at(&mut self.lanes, at),
+        let message = self.links.take(to, from)?;
+        let head = Head {
+            stamp: message.stamp(),
+            from,
+        };
+        match self.links.first_stamp(to, from) {
+            Some(stamp) => {
+                follow(&mut self.heads, to, head, Head { stamp, from });
+                Some(message)
+            }
+            None => {
+                leave(&mut self.heads, to, head);
+                Some(message)
+            }
+        }
+    }
+
+    /// The sender of the link to that process whose first message comes first, by its moment, then by its sender. It
+    /// takes no memory, and looks at one receiver's list alone, which it finds by its number.
+    pub fn next(&self, to: u32) -> Option<u32>
+        ensures there { IfSome result (λ from. IsSome (first_of (waiting to from self.now))) }
+        ensures least { IfSome result (λ from. (g : ℕ) → is_before to g from self.now ≡ false) }
+        ensures none { IfNone result ((g : ℕ) → waiting to g self.now ≡ []) }
+    {
+        match next_of(&self.heads, to) {
+            Some(head) => Some(head.from),
             None => None,
         }
     }
@@ -110,31 +132,6 @@ impl Mail {
     pub fn least(&self) -> Line
         ensures { result ≡ least_line_of (moments self.now) }
     {
-        let mut least = Line::End;
-        for lane in self.lanes.as_slice() {
-            least = lower_by(lane, least);
-        }
-        least
-    }
-
-    // The place of that link.
-    fn place(&self, to: u32, from: u32) -> Option<usize>
-        ensures { result ≡ place_of to from self.now }
-    {
-        self.places.get(&Ends { to, from }).copied()
-    }
-
-    // Opens that link with these messages on it.
-    fn append(&mut self, to: u32, from: u32, waiting: VecDeque<Message>) -> Result<(), Memory>
-        requires { place_of to from self.old ≡ None }
-        ensures ok { OnOk result (self.new ≡
-            self.old ++ (record { to = to; from = from; messages = waiting.items }) ∷ []) }
-        ensures err { OnErr result (self.new ≡ self.old) }
-    {
-        self.lanes.reserve(1)?;
-        let ends = Ends { to, from };
-        self.places.insert(ends, self.lanes.len())?;
-        self.lanes.push(Lane { ends, waiting })?;
-        Ok(())
+        self.links.least()
     }
 }

@@ -1,8 +1,9 @@
 ghost use Rattle.std.specs.Prelude.{◌≡◌};
 
 use crate::Mail;
-use pm_base::{Line, Num, Stamp};
+use pm_base::{Line, Memory, Num, Stamp};
 use pm_message::Message;
+use std::alloc::Global;
 use std::process::Abort;
 use std::test::Fail;
 
@@ -40,5 +41,31 @@ fn links_are_taken_in_order(rt: HostRuntime) -> Result<(), Fail> {
     next_time(&rt, &mut mail, 3, 3, None);
     next_time(&rt, &mut mail, 2, 1, Some(4));
     assert_eq!(rt; mail.least(), Line::End);
+    Ok(())
+}
+
+// Posts a message of that time from each of these senders to process 5.
+fn post_from(mail: &mut Mail, alloc: Global, posts: &[(u32, u64)]) -> Result<(), Memory> {
+    for post in posts {
+        mail.post(alloc, 5, post.0, wake(4, post.1))?;
+    }
+    Ok(())
+}
+
+#[test]
+fn the_least_first_message_is_next(rt: HostRuntime) -> Result<(), Fail> {
+    let alloc = rt.alloc();
+    let mut mail = Mail::new(alloc);
+    assert_eq!(rt; mail.next(5), None);
+    mail.open(alloc, 5, 1)?;
+    assert_eq!(rt; mail.next(5), None);
+    // The first messages: sender 3 at 7, sender 1 at 7, sender 2 at 6; behind them, sender 3 at 2, sender 2 at 8.
+    post_from(&mut mail, alloc, &[(3, 7), (1, 7), (2, 6), (3, 2), (2, 8)])?;
+    assert_eq!(rt; mail.next(4), None);
+    for want in [(2, 6), (1, 7), (3, 7), (3, 2), (2, 8)] {
+        assert_eq!(rt; mail.next(5), Some(want.0));
+        next_time(&rt, &mut mail, 5, want.0, Some(want.1));
+    }
+    assert_eq!(rt; mail.next(5), None);
     Ok(())
 }

@@ -3,7 +3,7 @@ use Rattle.std.proofs.lemmas.List.{length-map}
 use Rattle.pm_mail.specs.Inner.{link_of, place_of}
 use Rattle.pm_mail.specs.Links.{first_of, waiting}
 use Rattle.pm_mail.proofs.Places.{front-first, lane-messages, place-low, waiting-new, waiting-there}
-use Rattle.pm_mail.proofs.mail.Mail.first.Goals as goal
+use Rattle.pm_mail.proofs.lanes.Lanes.first.Goals as goal
 
 pub index-requires : goal.index-requires
 index-requires c =

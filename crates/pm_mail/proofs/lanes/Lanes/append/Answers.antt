@@ -5,7 +5,7 @@ use Rattle.pm_mail.specs.Inner.{ends_cmp, link_of, links_of, place_of}
 use Rattle.pm_mail.specs.Links.{Link}
 use Rattle.pm_mail.specs.declared.lane.Ends.{Ends}
 use Rattle.pm_mail.proofs.Places.{ends-same, links_appended, or_last, place-append, place-new, same-ends}
-use Rattle.pm_mail.proofs.mail.Mail.append.Goals as goal
+use Rattle.pm_mail.proofs.lanes.Lanes.append.Goals as goal
 
 pub invariant_of-self-2 : goal.invariant_of-self-2
 invariant_of-self-2 c = λ e.

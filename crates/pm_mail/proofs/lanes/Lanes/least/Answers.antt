@@ -2,7 +2,7 @@ use Rattle.std.proofs.Common.{◌∙◌, ap, map}
 use Rattle.pm_message.specs.Messages.{stamp_of}
 use Rattle.pm_mail.specs.Inner.{lowered}
 use Rattle.pm_mail.proofs.Places.{least-more}
-use Rattle.pm_mail.proofs.mail.Mail.least.Goals as goal
+use Rattle.pm_mail.proofs.lanes.Lanes.least.Goals as goal
 
 pub loop-lane-preserved : goal.loop-lane-preserved
 loop-lane-preserved c =
