@@ -1,10 +1,9 @@
 -- Heads in order: where one stands, and what putting one in and taking one away leave.
-use Rattle.std.proofs.Common.{◌≡◌, ℕ, zero, suc, ◌<◌, ◌≤◌, ◌⊎◌, inl, inr, Bool, true, false, not, ◌||◌, ◌&&◌, cond, List, [], ◌∷◌, ◌++◌, length, get_or, take, drop, Option, Some, None, refl, sym, ap, ap₂, arith, ◌∙◌, subst}
-use Rattle.std.specs.Prelude.{◌-◌, if◌then◌else◌, is_ok, IfSome, IsOk, Result, Ok, Err, slice_get}
+use Rattle.std.proofs.Common.{◌≡◌, ◌==◌, ℕ, zero, suc, ◌<◌, ◌≤◌, ◌⊎◌, inl, inr, Bool, true, false, not, ◌||◌, ◌&&◌, cond, List, [], ◌∷◌, ◌++◌, length, get_or, take, drop, refl, sym, ap, ap₂, arith, ◌∙◌, subst}
+use Rattle.std.specs.Prelude.{◌-◌, if◌then◌else◌, is_ok, IsOk, Result, Ok, Err}
 use Rattle.std.specs.List.{AllByRecursion, AllWithin}
 use Rattle.std.proofs.lemmas.Bool.{cases_Bool, cond_both, false≢true, or_parts}
 use Rattle.std.proofs.lemmas.Bool.Decides.{nat_tests}
-use Rattle.std.proofs.lemmas.Option.{same_Some}
 use Rattle.pm_mail.specs.Heads.{IsFalling, goes_before, is_in, place, same}
 use Rattle.pm_mail.specs.declared.heads.Head.{Head}
 
@@ -239,22 +238,19 @@ inserted (Err e) now new old f is = absurd (cc is)
 
 -- ---- the last head of a list is taken before the others
 
-last-of : (xs : List Head) (h : Head) → Some h ≡ slice_get xs (length xs - 1) → IsFalling xs
+pub last-of : (xs : List Head) (h d : Head) → 0 < length xs → h ≡ get_or xs (length xs - 1) d → IsFalling xs
     → (is_in h xs ≡ true) × ((k : Head) → is_in k xs ≡ true → goes_before k h ≡ false)
-last-of [] h e o = absurd (cc e)
-last-of (x ∷ []) h e o =
-    let at : h ≡ x = same_Some h x e in
-    (rw at (ap (λ b. b || false) (same-self x)), λ k f. only k at f)
+last-of [] h d some e o = absurd (omega (arith, some))
+last-of (x ∷ []) h d some e o = (rw e (ap (λ b. b || false) (same-self x)), only)
   where
-    only : (k : Head) → h ≡ x → is_in k (x ∷ []) ≡ true → goes_before k h ≡ false
-    only k at f =
-        elim (cases_Bool (same x k)) [
-          | inl g ↦ ap₂ goes_before (sym (same-is x k g)) at ∙ before-self x
-          | inr g ↦ absurd (false≢true (sym (ap (λ b. b || false) g) ∙ f))
-        ]
-last-of (x ∷ y ∷ ys) h e o =
+    only : (k : Head) → is_in k (x ∷ []) ≡ true → goes_before k h ≡ false
+    only k f = elim (cases_Bool (same x k)) [
+      | inl g ↦ ap₂ goes_before (sym (same-is x k g)) e ∙ before-self x
+      | inr g ↦ absurd (false≢true (sym (ap (λ b. b || false) g) ∙ f))
+    ]
+last-of (x ∷ y ∷ ys) h d some e o =
     let at : length (x ∷ y ∷ ys) - 1 ≡ suc (length (y ∷ ys) - 1) = omega arith in
-    let again = last-of (y ∷ ys) h (e ∙ ap (slice_get (x ∷ y ∷ ys)) at) o.1 in (
+    let again = last-of (y ∷ ys) h d (omega arith) (e ∙ ap (λ i. get_or (x ∷ y ∷ ys) i d) at) o.1 in (
       or_true (same x h) again.0,
       λ k f. elim (cases_Bool (same x k)) [
         | inl g ↦ ap (λ z. goes_before z h) (sym (same-is x k g))
@@ -267,12 +263,34 @@ last-of (x ∷ y ∷ ys) h e o =
     or_true true e = refl
     or_true false e = e
 
-pub last-there : (xs : List Head) (o : Option Head) → o ≡ slice_get xs (length xs - 1) → IsFalling xs
-    → IfSome o (λ h. is_in h xs ≡ true)
-last-there xs None e f = tt
-last-there xs (Some h) e f = (last-of xs h e f).0
+-- ---- lists that aren't empty
 
-pub last-least : (xs : List Head) (o : Option Head) → o ≡ slice_get xs (length xs - 1) → IsFalling xs
-    → IfSome o (λ h. (k : Head) → is_in k xs ≡ true → goes_before k h ≡ false)
-last-least xs None e f = tt
-last-least xs (Some h) e f = (last-of xs h e f).1
+pub first-in : (xs : List Head) → 0 < length xs → (k : Head) × (is_in k xs ≡ true)
+first-in [] some = absurd (omega (arith, some))
+first-in (x ∷ xs) some = (x, ap (λ b. b || is_in x xs) (same-self x))
+
+pub put-some : (h : Head) (xs : List Head) → 0 < length (put h xs)
+put-some h [] = omega arith
+put-some h (x ∷ xs) =
+    cond_both (goes_before h x) (x ∷ put h xs) (h ∷ (x ∷ xs)) (λ z. 0 < length z) (λ f. omega arith) (λ f. omega arith)
+
+pub cut-some : (h : Head) (xs : List Head) → is_in h xs ≡ true → (length xs == 1) ≡ false → 0 < length (cut h xs)
+cut-some h [] e more = absurd (false≢true e)
+cut-some h (x ∷ []) e more = absurd (grind (arith, nat_tests, more))
+cut-some h (x ∷ (y ∷ ys)) e more =
+    cond_both (goes_before h x) (x ∷ cut h (y ∷ ys)) (y ∷ ys) (λ z. 0 < length z)
+    (λ f. omega arith) (λ f. omega arith)
+
+-- where one head stands alone, without it there is none
+pub lone : (h k : Head) (xs : List Head) → (length xs == 1) ≡ true → is_in h xs ≡ true
+    → false ≡ (not (same h k) && is_in k xs)
+lone h k [] one e = absurd (false≢true e)
+lone h k (x ∷ []) one e = elim (cases_Bool (same x h)) [
+  | inl g ↦ sym (ap (λ z. not (same h k) && (same z k || false)) (same-is x h g) ∙ none (same h k))
+  | inr g ↦ absurd (false≢true (sym (ap (λ b. b || false) g) ∙ e))
+]
+  where
+    none : (b : Bool) → (not b && (b || false)) ≡ false
+    none true = refl
+    none false = refl
+lone h k (x ∷ (y ∷ ys)) one e = absurd (grind (arith, nat_tests, one))

@@ -1,15 +1,15 @@
 -- What posting and taking do to the heads, as the tests whether a receiver has one.
-use Rattle.std.proofs.Common.{◌≡◌, ℕ, ◌==◌, Bool, true, false, not, ◌||◌, ◌&&◌, Bor, List, Option, Some, None, is_some, sym, ap, ap₂, ◌∙◌}
-use Rattle.std.specs.Prelude.{option_copied, Result, Ok, Err, OnOk, OnErr}
+use Rattle.std.proofs.Common.{◌≡◌, ℕ, ◌<◌, ◌≤◌, ◌==◌, Bool, true, false, not, ◌||◌, ◌&&◌, Bor, List, [], Option, Some, None, is_some, sym, ap, ap₂, ◌∙◌}
+use Rattle.std.specs.Prelude.{option_copied, IfNone, IfSome, Result, Ok, Err, OnOk, OnErr}
 use Rattle.std.proofs.lemmas.Bool.{false≢true}
 use Rattle.pm_base.specs.declared.stamp.Stamp.{Stamp}
 use Rattle.pm_message.specs.Messages.{stamp_of}
 use Rattle.pm_message.specs.declared.Message.{Message}
 use Rattle.pm_mail.specs.Headed.{leads}
-use Rattle.pm_mail.specs.Heads.{same}
-use Rattle.pm_mail.specs.Links.{Link, first_moment, first_of, posted, taken, waiting}
+use Rattle.pm_mail.specs.Heads.{is_in, same}
+use Rattle.pm_mail.specs.Links.{IsAwaited, IsIdle, Link, first_moment, first_of, posted, taken, waiting}
 use Rattle.pm_mail.specs.declared.heads.Head.{Head}
-use Rattle.pm_mail.proofs.Leads.{head, lead-followed, lead-left, lead-posted, posted-behind, taken-none}
+use Rattle.pm_mail.proofs.Leads.{head, lead-followed, lead-left, lead-posted, next-none, next-there, posted-behind, taken-none}
 
 -- ---- the first message as it was looked for
 
@@ -64,3 +64,22 @@ module _ (had : ℕ → Head → Bool) (ls : List Link)
 pub nothing-taken : (t f : ℕ) (old new : List Link) → new ≡ taken t f old → first_of (waiting t f old) ≡ None
     → (u g : ℕ) → first_moment u g new ≡ first_moment u g old
 nothing-taken t f old new is none u g = ap (first_moment u g) is ∙ taken-none t f u g old none
+
+-- ---- the receivers that messages are on their way to
+
+module _ (hs : ℕ → List Head) (ls : List Link)
+    (are : (t : ℕ) (k : Head) → is_in k (hs t) ≡ leads k (first_moment t k.from ls)) where
+  pub one-awaited : (o : Option ℕ) → IfSome o (λ to. (k : Head) × (is_in k (hs to) ≡ true))
+      → IfSome o (λ to. IsAwaited to ls)
+  one-awaited None h = tt
+  one-awaited (Some to) h = (h.0.from, next-there to (hs to) ls (are to) h.0 h.1)
+
+  pub others-idle : (start : ℕ) (o : Option ℕ) → IfSome o (λ to. (t : ℕ) → start ≤ t → t < to → hs t ≡ [])
+      → IfSome o (λ to. (t : ℕ) → start ≤ t → t < to → IsIdle t ls)
+  others-idle start None h = tt
+  others-idle start (Some to) h = λ t from below. next-none t (hs t) ls (are t) (h t from below)
+
+  pub none-idle : (start : ℕ) (o : Option ℕ) → IfNone o ((t : ℕ) → start ≤ t → hs t ≡ [])
+      → IfNone o ((t : ℕ) → start ≤ t → IsIdle t ls)
+  none-idle start None h = λ t from. next-none t (hs t) ls (are t) (h t from)
+  none-idle start (Some to) h = tt

@@ -1,7 +1,8 @@
 -- The messages on their way between processes, which are named by their numbers.
-use Rattle.std.specs.Prelude.{ℕ, ◌==◌, ◌&&◌, ◌||◌, Bool, false, not, nat_lt, if◌then◌else◌, List, [], ◌∷◌, ◌++◌}
+use Rattle.std.specs.Prelude.{◌≡◌, ℕ, ◌==◌, ◌&&◌, ◌||◌, Bool, false, not, nat_lt, if◌then◌else◌, List, [], ◌∷◌, ◌++◌}
 use Rattle.std.specs.Prelude.{map, drop, Option, Some, None, option_map}
 use Rattle.std.specs.List.{flat_map, list_any}
+use Rattle.std.specs.Option.{IsSome}
 use Rattle.pm_base.specs.Stamps.{stamp_lt}
 use Rattle.pm_base.specs.declared.stamp.Stamp.{Stamp}
 use Rattle.pm_message.specs.Messages.{stamp_of}
@@ -72,3 +73,11 @@ first_moment to from ls = option_map stamp_of (first_of (waiting to from ls))
 -- of two links to a process, the first message of the one comes before that of the other
 abbrev pub is_before : ℕ → ℕ → ℕ → List Link → Bool
 is_before to g from ls = is_before_at (first_moment to g ls) g (first_moment to from ls) from
+
+-- some message is on its way to that process
+abbrev pub IsAwaited : ℕ → List Link → Type 0
+IsAwaited to ls = (from : ℕ) × IsSome (first_of (waiting to from ls))
+
+-- no message is on its way to it
+abbrev pub IsIdle : ℕ → List Link → Type 0
+IsIdle to ls = (from : ℕ) → waiting to from ls ≡ []

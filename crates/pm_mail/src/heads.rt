@@ -1,6 +1,6 @@
 // The first messages of the links to one receiver, in order, so that the next one is found at once.
-ghost use Rattle.std.specs.Prelude.{◌≡◌, [], ◌<◌, ◌≤◌, ◌==◌, ◌&&◌, ◌||◌, not, true, false, length, IfSome, IfNone, OnOk, OnErr};
-ghost use Rattle.pm_mail.specs.Heads.{IsFalling, goes_before, heads_at, is_in, place, same};
+ghost use Rattle.std.specs.Prelude.{◌≡◌, [], ◌∷◌, ◌≤◌, ◌==◌, ◌&&◌, ◌||◌, not, true, false, length, IfOk, OnOk, OnErr};
+ghost use Rattle.pm_mail.specs.Heads.{IsFalling, goes_before, is_in, place, same};
 ghost use Rattle.pm_mail.specs.declared.heads.Head.{Head as TheHead};
 
 use pm_base::{Memory, Stamp};
@@ -15,14 +15,15 @@ pub struct Head {
     pub from: u32,
 }
 
-/// Heads of one receiver's links. The one that is taken next stands last, where it goes without moving the others.
+/// Heads of one receiver's links, at least one. The one that is taken next stands last, where it goes without moving
+/// the others.
 #[derive(Drop)]
 pub struct Heads {
     rows: Vec<Head>,
 }
 
 impl Model for Heads {
-    ghost use Rattle.std.specs.Prelude.{List};
+    ghost use Rattle.std.specs.Prelude.{◌<◌, List, length};
     ghost use Rattle.pm_mail.specs.declared.heads.Head.{Head};
 
     ghost Value = { List Head };
@@ -31,25 +32,39 @@ impl Model for Heads {
 
     ghost view = { λ h. h.rows.items };
 
-    ghost invariant = { λ h. IsFalling h.rows.items };
+    ghost invariant = { λ h. IsFalling h.rows.items × (0 < length h.rows.items) };
 }
 
 impl Heads {
-    pub fn new(alloc: Global) -> Heads
-        ensures { result ≡ [] }
+    // One head.
+    pub fn one(alloc: Global, head: Head) -> Result<Heads, Memory>
+        ensures { IfOk result (λ heads. heads ≡ head ∷ []) }
     {
-        Heads {
-            rows: Vec::new(alloc),
-        }
+        let mut rows = Vec::new(alloc);
+        rows.push(head)?;
+        Ok(Heads { rows })
+    }
+
+    // Says for callers that there is a head, and does nothing.
+    pub fn never_empty(&self)
+        ensures { (k : TheHead) × (is_in k self.now ≡ true) }
+    {
+        let _ = &self.rows;
+    }
+
+    // Whether there is one head alone.
+    pub fn is_one(&self) -> bool
+        ensures { result ≡ (length self.now == 1) }
+    {
+        self.rows.len() == 1
     }
 
     // The head that is taken next.
-    pub fn next(&self) -> Option<Head>
-        ensures there { IfSome result (λ h. is_in h self.now ≡ true) }
-        ensures least { IfSome result (λ h. (k : TheHead) → is_in k self.now ≡ true → goes_before k h ≡ false) }
-        ensures none { IfNone result (self.now ≡ []) }
+    pub fn next(&self) -> Head
+        ensures there { is_in result self.now ≡ true }
+        ensures least { (k : TheHead) → is_in k self.now ≡ true → goes_before k result ≡ false }
     {
-        self.rows.last().copied()
+        self.rows[self.rows.len() - 1]
     }
 
     // Puts a head in its place.
@@ -63,9 +78,10 @@ impl Heads {
         Ok(())
     }
 
-    // Takes a head away.
+    // Takes a head away from among others.
     pub fn remove(&mut self, head: Head)
-        requires { is_in head self.old ≡ true }
+        requires there { is_in head self.old ≡ true }
+        requires others { (length self.old == 1) ≡ false }
         ensures { (k : TheHead) → is_in k self.new ≡ (not (same head k) && is_in k self.old) }
     {
         let at = place(self.rows.as_slice(), head);

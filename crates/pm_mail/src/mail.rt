@@ -1,11 +1,12 @@
-ghost use Rattle.std.specs.Prelude.{◌≡◌, ℕ, [], false, IfSome, IfNone, IsSome, OnOk, OnErr};
+ghost use Rattle.std.specs.Prelude.{◌≡◌, ℕ, ◌<◌, ◌≤◌, [], false, IfSome, IfNone, IsSome, OnOk, OnErr};
 ghost use Rattle.std.specs.Prelude.{option_copied};
 ghost use Rattle.pm_base.specs.Stamps.{least_line_of};
 ghost use Rattle.pm_mail.specs.Headed.{IsHeaded};
-ghost use Rattle.pm_mail.specs.Links.{first_of, has_link, is_before, moments, opened, posted, taken, waiting};
+ghost use Rattle.pm_mail.specs.Links.{IsAwaited, IsIdle, is_before};
+ghost use Rattle.pm_mail.specs.Links.{first_of, has_link, moments, opened, posted, taken, waiting};
 
 use crate::heads::{Head, Heads};
-use crate::index::{enter, follow, leave, next_of};
+use crate::index::{enter, first_from, follow, leave, next_of};
 use crate::lanes::Lanes;
 use pm_base::{Line, Memory};
 use pm_message::Message;
@@ -120,12 +121,23 @@ impl Mail {
     pub fn next(&self, to: u32) -> Option<u32>
         ensures there { IfSome result (λ from. IsSome (first_of (waiting to from self.now))) }
         ensures least { IfSome result (λ from. (g : ℕ) → is_before to g from self.now ≡ false) }
-        ensures none { IfNone result ((g : ℕ) → waiting to g self.now ≡ []) }
+        ensures none { IfNone result (IsIdle to self.now) }
     {
         match next_of(&self.heads, to) {
             Some(head) => Some(head.from),
             None => None,
         }
+    }
+
+    /// The least process number from `start` on to which a message is on its way. It takes no memory, and finds the
+    /// number at once.
+    pub fn next_receiver(&self, start: u32) -> Option<u32>
+        ensures from { IfSome result (λ to. start ≤ to) }
+        ensures there { IfSome result (λ to. IsAwaited to self.now) }
+        ensures least { IfSome result (λ to. (t : ℕ) → start ≤ t → t < to → IsIdle t self.now) }
+        ensures none { IfNone result ((t : ℕ) → start ≤ t → IsIdle t self.now) }
+    {
+        first_from(&self.heads, start)
     }
 
     /// The line at the least moment of all messages, or the end where there is none. It takes no memory.

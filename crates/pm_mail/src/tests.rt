@@ -62,10 +62,16 @@ fn the_least_first_message_is_next(rt: HostRuntime) -> Result<(), Fail> {
     // The first messages: sender 3 at 7, sender 1 at 7, sender 2 at 6; behind them, sender 3 at 2, sender 2 at 8.
     post_from(&mut mail, alloc, &[(3, 7), (1, 7), (2, 6), (3, 2), (2, 8)])?;
     assert_eq!(rt; mail.next(4), None);
+    mail.post(alloc, 7, 5, wake(0, 1))?;
+    assert_eq!(rt; mail.next_receiver(0), Some(5));
+    assert_eq!(rt; mail.next_receiver(5), Some(5));
+    assert_eq!(rt; mail.next_receiver(6), Some(7));
+    assert_eq!(rt; mail.next_receiver(8), None);
     for want in [(2, 6), (1, 7), (3, 7), (3, 2), (2, 8)] {
         assert_eq!(rt; mail.next(5), Some(want.0));
         next_time(&rt, &mut mail, 5, want.0, Some(want.1));
     }
     assert_eq!(rt; mail.next(5), None);
+    assert_eq!(rt; mail.next_receiver(0), Some(7));
     Ok(())
 }
