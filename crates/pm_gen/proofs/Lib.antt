@@ -1,0 +1,4 @@
+mod States
+mod Steps
+mod Refusals
+mod Programs
