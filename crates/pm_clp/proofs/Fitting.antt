@@ -13,7 +13,8 @@ use Rattle.pm_clp.proofs.Turns.{both, low_turns}
 
 module _ (h : Hub) (s : ClpState) (from : ℕ) where
   -- a Move that fits has low turns
-  pub move_turns : (m : Message) (v : ℕ) (t : Stamp) (r : Parts) → m ≡ message.Move v t r → fits h s from m ≡ true → TurnsUpTo (2 ^ 32) r
+  pub move_turns : (m : Message) (v : ℕ) (t : Stamp) (r : Parts) → m ≡ message.Move v t r → fits h s from m ≡ true
+      → TurnsUpTo (2 ^ 32) r
   move_turns m v t r is f =
       let e : fits h s from (message.Move v t r) ≡ true = subst (λ z. fits h s from z ≡ true) is f in
       let there : Bool = has_var h v && not (is_here (way_of v s)) in

@@ -19,7 +19,8 @@ module _ {X : Type 0} (Q : X → Type 0) (key : X → RowKey) where
   each_add r [] q a = (q, tt)
   each_add r (x ∷ xs) q a =
       let rest = each_add r xs q a.1 in
-      cond_both (key_lt (key r) (key x)) (r ∷ (x ∷ xs)) (x ∷ add_row key r xs) (AllByRecursion Q) (λ _. (q, a)) (λ _. (a.0, rest))
+      cond_both (key_lt (key r) (key x)) (r ∷ (x ∷ xs)) (x ∷ add_row key r xs) (AllByRecursion Q) (λ _. (q, a))
+      (λ _. (a.0, rest))
 
   each_adds : (done xs : List X) → AllByRecursion Q done → AllByRecursion Q xs → AllByRecursion Q (add_rows key done xs)
   each_adds done [] d a = d
@@ -34,9 +35,11 @@ module _ {X : Type 0} (Q : X → Type 0) (key : X → RowKey) where
 
 -- a settled record has the turns that came
 pub settled_turns : (n : ℕ) (r : Parts) → TurnsUpTo n r → TurnsUpTo n (settled r)
-settled_turns n r a = hits (record_value (parts_in_order r)) (rows_in_order read_key r.reads) (each_in_order (λ (q : ReadRow). q.turn ≤ n) read_key r.reads a)
+settled_turns n r a = hits (record_value (parts_in_order r)) (rows_in_order read_key r.reads)
+    (each_in_order (λ (q : ReadRow). q.turn ≤ n) read_key r.reads a)
   where
-    hits : (sees : Stamp → Value) (qs : List ReadRow) → AllByRecursion (λ (q : ReadRow). q.turn ≤ n) qs → AllByRecursion (λ (q : ReadRow). q.turn ≤ n) (map (with_hit sees) qs)
+    hits : (sees : Stamp → Value) (qs : List ReadRow) → AllByRecursion (λ (q : ReadRow). q.turn ≤ n) qs
+        → AllByRecursion (λ (q : ReadRow). q.turn ≤ n) (map (with_hit sees) qs)
     hits sees [] a = tt
     hits sees (q ∷ qs) a = (a.0, hits sees qs a.1)
 
@@ -49,7 +52,8 @@ both false b e = absurd (cc e)
 pub low_turns : (r : Parts) → has_low_turns r ≡ true → TurnsUpTo (2 ^ 32) r
 low_turns r e = each r.reads e
   where
-    each : (qs : List ReadRow) → list_all (λ (q : ReadRow). nat_lt q.turn (2 ^ 32)) qs ≡ true → AllByRecursion (λ (q : ReadRow). q.turn ≤ 2 ^ 32) qs
+    each : (qs : List ReadRow) → list_all (λ (q : ReadRow). nat_lt q.turn (2 ^ 32)) qs ≡ true
+        → AllByRecursion (λ (q : ReadRow). q.turn ≤ 2 ^ 32) qs
     each [] e = tt
     each (q ∷ qs) e =
         let p = both (nat_lt q.turn (2 ^ 32)) (list_all (λ (q : ReadRow). nat_lt q.turn (2 ^ 32)) qs) e in

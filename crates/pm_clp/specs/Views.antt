@@ -2,7 +2,8 @@
 use Rattle.pm_queries.specs.declared.registered.Sent.{Sent}
 use Rattle.pm_queries.specs.declared.registered.Registered.{Registered}
 use Rattle.pm_queries.specs.Queries.{ask_of, without}
-use Rattle.std.specs.Prelude.{ℕ, ◌+◌, ◌^◌, ◌≤◌, ◌≡◌, suc, Bool, true, false, List, [], ◌∷◌, ◌++◌, length, get_or, Option, Some, None}
+use Rattle.std.specs.Prelude.{ℕ, ◌+◌, ◌^◌, ◌≤◌, ◌≡◌, suc, Bool, true, false, List, [], ◌∷◌, ◌++◌, length, get_or}
+use Rattle.std.specs.Prelude.{Option, Some, None}
 use Rattle.pm_base.specs.Layouts.{IsLayout, var_count}
 use Rattle.pm_base.specs.declared.layout.Layout.{Layout}
 use Rattle.pm_base.specs.declared.stamp.Line.{Line}
@@ -14,8 +15,8 @@ use Rattle.pm_ranges.specs.Known.{Known}
 use Rattle.pm_periods.specs.Periods.{periods_from}
 use Rattle.pm_routes.specs.Routings.{Routing, left}
 use Rattle.pm_tables.specs.Tables.{grow_periods}
-use Rattle.pm_clp.specs.Clps.{ClpSends, ClpState, Hub, and_then, at_record, class_at, floor_of, leaves, no_clp_sends, rec_at}
-use Rattle.pm_clp.specs.Clps.{take_watch}
+use Rattle.pm_clp.specs.Clps.{ClpSends, ClpState, Hub, and_then, at_record, class_at, floor_of, leaves, no_clp_sends}
+use Rattle.pm_clp.specs.Clps.{rec_at, take_watch}
 use Rattle.pm_clp.specs.Kept.{Kept}
 
 -- what it knows of its place, what it keeps, a number that no turn of a read is above, how many deliveries were made,
@@ -36,7 +37,8 @@ abbrev pub state_of : Kept → Routing → Line → List Registered → List (Li
 state_of kept routing line queries bound told =
     record { records = kept.recs; routing = routing; line = line; queries = queries; bound = bound; told = told }
 
--- the classes are a layout, each variable has a way, the ways know the tree ports, and the turns rise with the deliveries
+-- the classes are a layout, each variable has a way, the ways know the tree ports, and the turns rise with the
+-- deliveries
 pub record IsClp (ports : List ℕ) (layout : Layout) (kept : Kept) (routing : Routing) (made : ℕ) : Type 0 where
   pub classes : IsLayout layout
   pub ways : length routing.ways ≡ var_count layout.classes
@@ -82,7 +84,11 @@ pub record DidAny (was now : ClpView) (before after : List Sent) (f : ClpState �
 -- a record that was taken off is sent to the port, whose bound grows by all its periods
 abbrev pub sent_off : Hub → ℕ → ℕ → Parts → ClpState → ClpSends
 sent_off h v d r s = record {
-  clp = record s { routing = left s.routing v d; bound = grow_periods h.ports d (class_at h v) (periods_from r None) s.bound };
+  clp = record s {
+    routing = left s.routing v d;
+    bound = grow_periods h.ports d (class_at h v) (periods_from r None)
+        s.bound;
+  };
   sent = record { to = d; message = message.Move v (floor_of s.line) r } ∷ [];
 }
 

@@ -1,9 +1,11 @@
 // A communication process.
-ghost use Rattle.std.specs.Prelude.{◌≡◌, ◌<◌, ◌+◌, ◌^◌, [], ◌∷◌, ◌++◌, false, if◌then◌else◌, filter, get_or, length, map, IfOk, OnOk, Some};
+ghost use Rattle.std.specs.Prelude.{◌≡◌, ◌<◌, ◌+◌, ◌^◌, [], ◌∷◌, ◌++◌, false, if◌then◌else◌, filter, get_or, length};
+ghost use Rattle.std.specs.Prelude.{map, IfOk, OnOk, Some};
 ghost use Rattle.std.specs.Option.{option_to_list};
 ghost use Rattle.pm_base.specs.Windows.{is_inverted};
 ghost use Rattle.pm_base.specs.Layouts.{var_count};
-ghost use Rattle.pm_clp.specs.Clps.{after_finish, at_record, catch_up, clp_committed, counting, floor_of, grow_bound, on_grow, sent_on};
+ghost use Rattle.pm_clp.specs.Clps.{after_finish, at_record, catch_up, clp_committed, counting, floor_of, grow_bound};
+ghost use Rattle.pm_clp.specs.Clps.{on_grow, sent_on};
 ghost use Rattle.pm_clp.specs.Clps.{take_cut, take_put, take_watch, tell, tell_from, tell_one, tell_periods, telling};
 ghost use Rattle.pm_clp.specs.Clps.{to_agent, watch_all};
 ghost use Rattle.pm_routes.specs.Routings.{place_of, way_at};

@@ -11,7 +11,7 @@ use pm_queries::Sent;
 use std::alloc::Global;
 
 impl Clp {
-    // What the message asks for happens.
+    // What the message asks for happens. A Wake never fits.
     fn act(
         &mut self,
         alloc: Global,
@@ -52,9 +52,9 @@ impl Clp {
         }
     }
 
-    /// Delivers a message from that process that `takes` admits: the process is what the message makes of it, and what it
-    /// sends is appended to `out`, in order. After `Memory` the process is spoilt: from then on it answers `Memory`, and
-    /// appends nothing.
+    /// Delivers a message from that process that `takes` admits: the process is what the message makes of it, and what
+    /// it sends is appended to `out`, in order. After `Memory` the process is spoilt, and `out` may have grown: from
+    /// then on it answers `Memory`, and appends nothing.
     pub fn deliver(
         &mut self,
         alloc: Global,

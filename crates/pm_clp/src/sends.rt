@@ -2,7 +2,8 @@
 ghost use Rattle.std.specs.Prelude.{◌≡◌, ◌<◌, ◌+◌, ◌^◌, ◌++◌, false, length, map, slice_get, IfOk, OnOk, Some};
 ghost use Rattle.pm_base.specs.Layouts.{class_row, var_count};
 ghost use Rattle.pm_base.specs.declared.value.Query.TheVariants as query;
-ghost use Rattle.pm_clp.specs.Clps.{Hub, and_then, at_record, class_at, forwards, installed, on_ask, on_cut, on_move, on_put};
+ghost use Rattle.pm_clp.specs.Clps.{Hub, and_then, at_record, class_at, forwards, installed, on_ask, on_cut, on_move};
+ghost use Rattle.pm_clp.specs.Clps.{on_put};
 ghost use Rattle.pm_clp.specs.Clps.{queries_watch, registered, take_cut, take_put, take_watch, telling};
 ghost use Rattle.pm_clp.specs.Kept.{TurnsUpTo};
 ghost use Rattle.pm_clp.specs.Views.{Did, DidAny, DidRaise, asked_at, watch_at};

@@ -9,7 +9,8 @@ pub returns : goal.returns
 returns c =
     let i = c.self.inside in
     let h = hub_of i.ports i.to_agents i.layout in
-    let place = c.place_of-place.ensures ∙ ap (λ (v : ClpView). place_of v.hub.ports c.args.port) (sym c.self.view_is) in
+    let place = c.place_of-place.ensures ∙ ap (λ (v : ClpView). place_of v.hub.ports c.args.port)
+    (sym c.self.view_is) in
     on_ok_both c.catch_up.result
     (λ queries sent. subst (λ (z : ClpView). Did z
     (record {
@@ -19,6 +20,7 @@ returns c =
       made = i.made;
       spoilt = i.spoilt;
     }) c.args.out.now c.catch_up.new.out (catch_up z.hub c.args.port c.args.class)) c.self.view_is
-    (caught-did h (state_of i.records i.routes i.line i.queries i.bound i.told) i.records.limit i.made i.spoilt c.args.port c.args.class c.place_of-place.result
+    (caught-did h (state_of i.records i.routes i.line i.queries i.bound i.told) i.records.limit i.made i.spoilt
+    c.args.port c.args.class c.place_of-place.result
     c.catch_up.new.self c.args.out.now c.catch_up.new.out place queries sent))
     c.catch_up.ensures.queries c.catch_up.ensures.sent

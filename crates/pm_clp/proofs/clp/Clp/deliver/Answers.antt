@@ -7,6 +7,8 @@ use Rattle.pm_clp.proofs.clp.Clp.deliver.Goals as goal
 pub act-requires-clause-fits : goal.act-requires-clause-fits
 act-requires-clause-fits c =
     let i = c.self.inside in
-    let taken = subst (λ (v : ClpView). v.spoilt ≡ false → takes v.hub v.made v.clp c.args.from c.args.message ≡ true) (sym c.self.view_is) c.requires in
-    takes_fits (hub_of i.ports i.to_agents i.layout) (state_of i.records i.routes i.line i.queries i.bound i.told) c.args.from i.made c.args.message
+    let taken = subst (λ (v : ClpView). v.spoilt ≡ false → takes v.hub v.made v.clp c.args.from c.args.message
+    ≡ true) (sym c.self.view_is) c.requires in
+    takes_fits (hub_of i.ports i.to_agents i.layout) (state_of i.records i.routes i.line i.queries i.bound i.told)
+    c.args.from i.made c.args.message
     (taken c.if-self.false)

@@ -17,6 +17,7 @@ counting-requires-clause-here c =
 pub returns : goal.returns
 returns c =
     on_ok c.counting.result
-    (λ counted. put_did c.args.self.now c.put_told.new.self c.counting.new.self c.args.out.now c.put_told.new.out c.counting.new.out
+    (λ counted. put_did c.args.self.now c.put_told.new.self c.counting.new.self c.args.out.now c.put_told.new.out
+    c.counting.new.out
     c.args.from c.args.var c.args.row c.requires.here c.in_ok-put_told.ensures counted)
     c.counting.ensures

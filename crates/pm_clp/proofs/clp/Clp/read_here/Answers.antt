@@ -5,6 +5,8 @@ use Rattle.pm_clp.proofs.clp.Clp.read_here.Goals as goal
 pub returns : goal.returns
 returns c =
     on_ok c.counting.result
-    (λ counted. read_did c.args.self.now c.record_watch.new.self c.counting.new.self c.args.out.now c.record_watch.new.out c.counting.new.out
-    c.args.from c.args.var c.args.num c.args.stamp c.whole.result c.requires.here c.whole.ensures.value c.in_ok-record_watch.ensures counted)
+    (λ counted. read_did c.args.self.now c.record_watch.new.self c.counting.new.self c.args.out.now
+    c.record_watch.new.out c.counting.new.out
+    c.args.from c.args.var c.args.num c.args.stamp c.whole.result c.requires.here c.whole.ensures.value
+    c.in_ok-record_watch.ensures counted)
     c.counting.ensures

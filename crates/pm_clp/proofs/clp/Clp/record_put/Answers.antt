@@ -10,9 +10,18 @@ returns c =
     let f = take_put c.args.var c.args.row in
     on_ok c.send_gives.result
     (λ sent. subst (λ (z : ClpView). DidRaise z
-    (record { hub = hub_of i.ports i.to_agents i.layout; clp = state_of c.put.new.self i.routes i.line i.queries i.bound i.told; limit = c.put.new.self.limit; made = i.made; spoilt = i.spoilt })
+    (record {
+      hub = hub_of i.ports i.to_agents i.layout;
+      clp = state_of c.put.new.self i.routes i.line i.queries i.bound i.told;
+      limit = c.put.new.self.limit;
+      made =
+          i.made;
+      spoilt = i.spoilt;
+    })
     c.args.out.now c.send_gives.new.out (at_record z.hub c.args.var f)) c.self.view_is
-    (raised-did (hub_of i.ports i.to_agents i.layout) (state_of i.records i.routes i.line i.queries i.bound i.told) i.records.limit i.made i.spoilt f
-    c.args.var c.put.new.self c.in_ok-gives.gives c.args.out.now c.send_gives.new.out c.in_ok-gives.ensures.ok c.in_ok-gives.ensures.gives
+    (raised-did (hub_of i.ports i.to_agents i.layout) (state_of i.records i.routes i.line i.queries i.bound i.told)
+    i.records.limit i.made i.spoilt f
+    c.args.var c.put.new.self c.in_ok-gives.gives c.args.out.now c.send_gives.new.out c.in_ok-gives.ensures.ok
+    c.in_ok-gives.ensures.gives
     (sent ∙ ap (λ z. c.args.out.now ++ map (give_to i.to_agents) z) c.as_slice.ensures)))
     c.send_gives.ensures

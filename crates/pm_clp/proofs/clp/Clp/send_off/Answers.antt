@@ -11,9 +11,11 @@ pub returns : goal.returns
 returns c =
     let i = c.self.inside in
     let h = hub_of i.ports i.to_agents i.layout in
-    let place = c.place_of-place.ensures ∙ ap (λ (v : ClpView). place_of v.hub.ports c.args.port) (sym c.self.view_is) in
+    let place = c.place_of-place.ensures ∙ ap (λ (v : ClpView). place_of v.hub.ports c.args.port)
+    (sym c.self.view_is) in
     let class = c.class_of-class.ensures.value in
-    let grown = grown_off i.ports c.args.port c.class_of-class.result (class_at h c.args.var) c.place_of-place.result c.as_slice.result.now
+    let grown = grown_off i.ports c.args.port c.class_of-class.result (class_at h c.args.var)
+    c.place_of-place.result c.as_slice.result.now
     (periods_from c.args.held.parts None) i.bound c.grow_periods.new.self c.in_ok-grow_periods.ensures place class
     (c.as_slice.ensures ∙ c.in_ok-periods.ensures.value) in
     on_ok c.push.result
@@ -26,9 +28,16 @@ returns c =
       spoilt = i.spoilt;
     }) c.args.out.now c.push.new.self (sent_off z.hub c.args.var c.args.port c.args.held.parts)) c.self.view_is
     (record {
-      state = ap₂ (λ r b. record { hub = h; clp = state_of i.records r i.line i.queries b i.told; limit = i.records.limit; made = i.made; spoilt = i.spoilt })
+      state = ap₂ (λ r b. record {
+        hub = h;
+        clp = state_of i.records r i.line i.queries b i.told;
+        limit = i.records.limit;
+        made = i.made;
+        spoilt = i.spoilt;
+      })
           c.leave.ensures grown;
-      sent = sent ∙ ap₂ (λ f p. c.args.out.now ++ record { to = c.args.port; message = message.Move c.args.var f p } ∷ [])
+      sent = sent ∙ ap₂ (λ f p. c.args.out.now ++ record { to = c.args.port; message = message.Move c.args.var f p }
+          ∷ [])
           c.floor_of-floor.ensures c.in_ok-parts.ensures;
     }))
     c.push.ensures.ok

@@ -6,6 +6,7 @@ use Rattle.pm_clp.proofs.clp.Clp.tell.Given as goal
 abbrev pub invariant-loop-at : goal.invariant-loop-at
 invariant-loop-at l = record {
   hub : l.self.hub ≡ l.fn.self.hub;
-  leads : Leads l.self l.out (tell l.fn.self.hub l.class l.from l.until l.window (others l.skip (drop l.at l.fn.self.hub.ports)))
+  leads : Leads l.self l.out (tell l.fn.self.hub l.class l.from l.until l.window
+      (others l.skip (drop l.at l.fn.self.hub.ports)))
       l.fn.self l.fn.out (tell l.fn.self.hub l.class l.from l.until l.window (others l.skip l.fn.self.hub.ports));
 }
