@@ -1,5 +1,6 @@
 -- How many writes a step makes.
-use Rattle.std.proofs.Common.{◌≡◌, sym, ap, ℕ, zero, suc, ◌<◌, ◌≤◌, ◌-◌, ◌^◌, List, length, slice_index_or, slice_get, Some, arith}
+use Rattle.std.proofs.Common.{◌≡◌, sym, ap, ℕ, zero, suc, ◌<◌, ◌≤◌, ◌-◌, ◌^◌, List, length, slice_index_or, slice_get}
+use Rattle.std.proofs.Common.{Some, arith}
 use Rattle.std.proofs.lemmas.Option.{get_or_from_slice_get, slice_get_within}
 use Rattle.pm_base.specs.declared.value.Write.{Write}
 use Rattle.pm_step.specs.Steps.{IsRising}
@@ -13,9 +14,11 @@ place-low ws d rise (suc k) lt =
     omega (arith, low, less)
 
 -- so there are no more writes than numbers of variables
-pub few : (ws : List Write) (w : Write) → IsRising ws → Some w ≡ slice_get ws (length ws - 1) → w.var < 2 ^ 32 → length ws ≤ 2 ^ 32
+pub few : (ws : List Write) (w : Write) → IsRising ws → Some w ≡ slice_get ws (length ws - 1) → w.var < 2 ^ 32
+    → length ws ≤ 2 ^ 32
 few ws w rise e lt =
     let at : length ws - 1 < length ws = slice_get_within ws (length ws - 1) w (sym e) in
     let low : length ws - 1 ≤ (slice_index_or ws (length ws - 1) w).var = place-low ws w rise (length ws - 1) at in
-    let same : (slice_index_or ws (length ws - 1) w).var ≡ w.var = ap (λ (v : Write). v.var) (get_or_from_slice_get ws (length ws - 1) w w (sym e)) in
+    let same : (slice_index_or ws (length ws - 1) w).var
+    ≡ w.var = ap (λ (v : Write). v.var) (get_or_from_slice_get ws (length ws - 1) w w (sym e)) in
     omega (arith, low, same, lt)

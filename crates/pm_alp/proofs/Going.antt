@@ -1,5 +1,7 @@
 -- What the calls on kept steps say, as what an agent does.
-use Rattle.std.proofs.Common.{◌≡◌, refl, sym, ap, ◌∙◌, subst, ℕ, ◌+◌, ◌<◌, ◌≤◌, ◌^◌, nat_le, Bool, true, false, if◌then◌else◌, ℤ, List, [], ◌∷◌, ◌++◌, length, Option, Some, None, IfSome, arith, append-nil, append_assoc}
+use Rattle.std.proofs.Common.{◌≡◌, refl, sym, ap, ◌∙◌, subst, ℕ, ◌+◌, ◌<◌, ◌≤◌, ◌^◌, nat_le, Bool, true, false}
+use Rattle.std.proofs.Common.{if◌then◌else◌, ℤ, List, [], ◌∷◌, ◌++◌, length, Option, Some, None, IfSome, arith}
+use Rattle.std.proofs.Common.{append-nil, append_assoc}
 use Rattle.std.proofs.lemmas.Bool.Decides.{nat_tests}
 use Rattle.pm_base.specs.declared.rows.Act.{Act}
 use Rattle.pm_base.specs.declared.stamp.Num.{Num}
@@ -18,7 +20,8 @@ use Rattle.pm_saved.specs.declared.kept.KeptAct.{KeptAct}
 use Rattle.pm_saved.specs.declared.kept.KeptSense.{KeptSense}
 use Rattle.pm_saved.specs.declared.kept.KeptStep.{KeptStep}
 use Rattle.pm_saved.specs.declared.spot.Spot.{Spot as Place}
-use Rattle.pm_alp.specs.Agents.{Actor, Sends, act_of, act_sends, asking, first_sends, go_on, kept_in, next_seq, next_wake, no_sends, nums_of, puts_of, wake_of, went_on}
+use Rattle.pm_alp.specs.Agents.{Actor, Sends, act_of, act_sends, asking, first_sends, go_on, kept_in, next_seq}
+use Rattle.pm_alp.specs.Agents.{next_wake, no_sends, nums_of, puts_of, wake_of, went_on}
 use Rattle.pm_alp.specs.States.{AreTimely, HasMoved, IsReady, agent_of, asked, awaited_at, sensed, written_at}
 use Rattle.pm_alp.specs.declared.agent.Agent.{Agent}
 use Rattle.pm_alp.specs.declared.agent.Awaited.{Awaited}
@@ -38,7 +41,8 @@ pub stayed : (s : State) (out : List Message) (n : ℕ) → IsReady s → HasMov
 stayed s out n h = record { agent = refl; sent = sym (append-nil out); few = omega arith; ready = h }
 
 -- the same move, said otherwise
-pub moved-as : (n m : ℕ) (r q : Sends) (old new : State) (out out' : List Message) → n ≤ m → r ≡ q → HasMoved n r old new out out' → HasMoved m q old new out out'
+pub moved-as : (n m : ℕ) (r q : Sends) (old new : State) (out out' : List Message) → n ≤ m → r ≡ q
+    → HasMoved n r old new out out' → HasMoved m q old new out out'
 moved-as n m r q old new out out' le e h = record {
   agent = h.agent ∙ ap (λ (z : Sends). z.agent) e;
   sent = h.sent ∙ ap (λ (z : Sends). out ++ z.sent) e;
@@ -47,7 +51,8 @@ moved-as n m r q old new out out' le e h = record {
 }
 
 -- the last step asked
-pub asks : (n : ℕ) (s : Stamp) (q : Query) (old : State) (kept : Kept) (out out' : List Message) (front : List KeptStep) (last : KeptStep) → IsReady old
+pub asks : (n : ℕ) (s : Stamp) (q : Query) (old : State) (kept : Kept) (out out' : List Message)
+    (front : List KeptStep) (last : KeptStep) → IsReady old
     → old.saved.steps ≡ front ++ last ∷ [] → kept ≡ with_asked front last (asking n old.seq q) old.saved
     → out' ≡ out ++ message.Ask (record { agent = n; seq = old.seq }) s q ∷ []
     → HasMoved 1 (asked n s q front last (agent_of old)) old (state kept None (old.seq + 1)) out out'
@@ -56,18 +61,29 @@ asks n s q old kept out out' front last h e k o = record {
   sent = o;
   few = omega arith;
   ready = record {
-    timely = subst (λ (z : Kept). AreTimely z.steps) (sym k) (timely-last-as front [] last (record last { senses = last.senses ++ asking n old.seq q ∷ [] }) refl (subst AreTimely e h.timely));
+    timely = subst (λ (z : Kept). AreTimely z.steps) (sym k)
+        (timely-last-as front [] last (record last { senses = last.senses ++ asking n old.seq q ∷ [] }) refl
+        (subst AreTimely e h.timely));
     soon = tt;
     fresh = (let used : kept.used ≡ old.seq + 1 = ap (λ (z : Kept). z.used) k in omega (arith, used));
   };
 }
 
 wake_is : (b : Bool) (a : ℕ) (s : Stamp) (n : ℕ) (d : Act)
-    → ◌≡◌ {A = Option Awaited} (if b then Some (record { num = record { agent = a; seq = n + length d.writes }; stamp = record { time = later s.time d.wait; agent = a } }) else None) (next_wake b a s n d)
+    → ◌≡◌ {A = Option Awaited} (if b then Some
+    (record {
+      num = record { agent = a; seq = n + length d.writes };
+      stamp = record {
+        time = later s.time
+            d.wait;
+        agent = a;
+      };
+    }) else None) (next_wake b a s n d)
 wake_is true a s n d = refl
 wake_is false a s n d = refl
 
-soon_wake : (b : Bool) (a : ℕ) (s : Stamp) (n : ℕ) (d : Act) → (b ≡ true → later s.time d.wait < 2 ^ 63) → IfSome (next_wake b a s n d) (λ (w : Awaited). w.stamp.time < 2 ^ 63)
+soon_wake : (b : Bool) (a : ℕ) (s : Stamp) (n : ℕ) (d : Act) → (b ≡ true → later s.time d.wait < 2 ^ 63)
+    → IfSome (next_wake b a s n d) (λ (w : Awaited). w.stamp.time < 2 ^ 63)
 soon_wake true a s n d h = h refl
 soon_wake false a s n d h = tt
 
@@ -80,50 +96,86 @@ seq_high true n = omega arith
 seq_high false n = omega arith
 
 -- the last step acted
-pub acts : (many : ℕ) (a horizon : ℕ) (d : Act) (answer : List (List Hit)) (nums : List Num) (old : State) (kept : Kept) (wake : Option Awaited) (seq : ℕ) (out mid out' : List Message)
-    (front : List KeptStep) (last : KeptStep) (stamp : Stamp) (time : ℕ) → length d.writes ≤ many → horizon < 2 ^ 63 → IsReady old → old.saved.steps ≡ front ++ last ∷ [] → answer ≡ answers last.senses
+pub acts : (many : ℕ) (a horizon : ℕ) (d : Act) (answer : List (List Hit)) (nums : List Num) (old : State)
+    (kept : Kept) (wake : Option Awaited) (seq : ℕ) (out mid out' : List Message)
+    (front : List KeptStep) (last : KeptStep) (stamp : Stamp) (time : ℕ) → length d.writes ≤ many
+    → horizon < 2 ^ 63 → IsReady old → old.saved.steps ≡ front ++ last ∷ [] → answer ≡ answers last.senses
     → stamp ≡ last.stamp → time ≡ later stamp.time d.wait → nums ≡ nums_of a old.seq d.writes
-    → kept ≡ with_act front last (record { entry = record { stamp = last.stamp; answers = answer; writes = d.writes }; nums = nums; regs = d.regs; wait = d.wait }) old.saved
-    → mid ≡ out ++ puts_of a stamp old.seq d.writes → wake ≡ awaited_at a horizon (old.seq + length d.writes) time → seq ≡ next_seq (nat_le time horizon) (old.seq + length d.writes)
+    → kept ≡ with_act front last (record {
+      entry = record {
+        stamp = last.stamp;
+        answers = answer;
+        writes = d.writes;
+      };
+      nums = nums;
+      regs = d.regs;
+      wait = d.wait;
+    }) old.saved
+    → mid ≡ out ++ puts_of a stamp old.seq d.writes → wake ≡ awaited_at a horizon (old.seq + length d.writes) time
+    → seq ≡ next_seq (nat_le time horizon) (old.seq + length d.writes)
     → out' ≡ mid ++ wake_of wake
-    → HasMoved (many + 1) (act_sends a old.saved.base front last.stamp last.senses old.seq d (nat_le (later last.stamp.time d.wait) horizon)) old (state kept wake seq) out out'
-acts many a horizon d answer nums old kept wake seq out mid out' front last stamp time le low h e ea es et en ek em ew eq eo =
+    → HasMoved (many + 1) (act_sends a old.saved.base front last.stamp last.senses old.seq d (nat_le
+    (later last.stamp.time d.wait) horizon)) old (state kept wake seq) out out'
+acts many a horizon d answer nums old kept wake seq out mid out' front last stamp time le low h e ea es et en ek em
+    ew eq eo =
     let b : Bool = nat_le (later last.stamp.time d.wait) horizon in
     let at : time ≡ later last.stamp.time d.wait = et ∙ ap (λ (s : Stamp). later s.time d.wait) es in
-    let the_wake : wake ≡ next_wake b a last.stamp old.seq d = ew ∙ (ap (awaited_at a horizon (old.seq + length d.writes)) at ∙ wake_is b a last.stamp old.seq d) in
-    let the_seq : seq ≡ next_seq b (old.seq + length d.writes) = eq ∙ ap (λ t. next_seq (nat_le t horizon) (old.seq + length d.writes)) at in
+    let the_wake : wake ≡ next_wake b a last.stamp old.seq d = ew
+    ∙ (ap (awaited_at a horizon (old.seq + length d.writes)) at ∙ wake_is b a last.stamp old.seq d) in
+    let the_seq : seq ≡ next_seq b (old.seq + length d.writes) = eq
+    ∙ ap (λ t. next_seq (nat_le t horizon) (old.seq + length d.writes)) at in
     let end : List (List Hit) → List Num → KeptAct =
-    λ xs ns. record { entry = record { stamp = last.stamp; answers = xs; writes = d.writes }; nums = ns; regs = d.regs; wait = d.wait } in
+    λ xs ns. record {
+      entry = record { stamp = last.stamp; answers = xs; writes = d.writes };
+      nums = ns;
+      regs =
+          d.regs;
+      wait = d.wait;
+    } in
     let the_kept : kept ≡ with_act front last (act_of a last.stamp last.senses old.seq d) old.saved =
-    ek ∙ (ap (λ xs. with_act front last (end xs nums) old.saved) ea ∙ ap (λ ns. with_act front last (end (answers last.senses) ns) old.saved) en) in
-    let the_out : out' ≡ out ++ (puts_of a last.stamp old.seq d.writes ++ wake_of (next_wake b a last.stamp old.seq d)) =
+    ek ∙ (ap (λ xs. with_act front last (end xs nums) old.saved) ea
+    ∙ ap (λ ns. with_act front last (end (answers last.senses) ns) old.saved) en) in
+    let the_out : out' ≡ out ++ (puts_of a last.stamp old.seq d.writes ++ wake_of
+    (next_wake b a last.stamp old.seq d)) =
     eo ∙ (ap (λ z. z ++ wake_of wake) (em ∙ ap (λ s. out ++ puts_of a s old.seq d.writes) es)
-    ∙ (ap (λ w. (out ++ puts_of a last.stamp old.seq d.writes) ++ wake_of w) the_wake ∙ append_assoc out (puts_of a last.stamp old.seq d.writes) (wake_of (next_wake b a last.stamp old.seq d)))) in
+    ∙ (ap (λ w. (out ++ puts_of a last.stamp old.seq d.writes) ++ wake_of w) the_wake
+    ∙ append_assoc out (puts_of a last.stamp old.seq d.writes) (wake_of (next_wake b a last.stamp old.seq d)))) in
     let soon : b ≡ true → later last.stamp.time d.wait < 2 ^ 63 = λ t. grind (arith, nat_tests, low, t) in
-    let high : next_seq b (old.seq + length d.writes) ≤ old.seq + length d.writes + 1 = seq_high b (old.seq + length d.writes) in
-    let less : old.seq + length d.writes ≤ next_seq b (old.seq + length d.writes) = seq_low b (old.seq + length d.writes) in
+    let high : next_seq b (old.seq + length d.writes) ≤ old.seq + length d.writes + 1 = seq_high b
+    (old.seq + length d.writes) in
+    let less : old.seq + length d.writes ≤ next_seq b (old.seq + length d.writes) = seq_low b
+    (old.seq + length d.writes) in
     let used : kept.used ≡ old.saved.used = ap (λ (z : Kept). z.used) the_kept in
     let fresh : old.saved.used ≤ old.seq = h.fresh in
     record {
-      agent = ap (λ z. agent z wake seq) the_kept ∙ (ap (λ w. agent (with_act front last (act_of a last.stamp last.senses old.seq d) old.saved) w seq) the_wake
-          ∙ ap (λ n. agent (with_act front last (act_of a last.stamp last.senses old.seq d) old.saved) (next_wake b a last.stamp old.seq d) n) the_seq);
+      agent = ap (λ z. agent z wake seq) the_kept
+          ∙ (ap (λ w. agent (with_act front last (act_of a last.stamp last.senses old.seq d) old.saved) w seq) the_wake
+          ∙ ap (λ n. agent (with_act front last (act_of a last.stamp last.senses old.seq d) old.saved)
+          (next_wake b a last.stamp old.seq d) n) the_seq);
       sent = the_out;
       few = omega (arith, the_seq, high, le);
       ready = record {
         timely = subst (λ (z : Kept). AreTimely z.steps) (sym the_kept)
-            (timely-last-as front [] last (record last { act = Some (act_of a last.stamp last.senses old.seq d) }) refl (subst AreTimely e h.timely));
-        soon = subst (λ (w : Option Awaited). IfSome w (λ (x : Awaited). x.stamp.time < 2 ^ 63)) (sym the_wake) (soon_wake b a last.stamp old.seq d soon);
+            (timely-last-as front [] last (record last {
+              act = Some
+                  (act_of a last.stamp last.senses old.seq d);
+            }) refl (subst AreTimely e h.timely));
+        soon = subst (λ (w : Option Awaited). IfSome w (λ (x : Awaited). x.stamp.time < 2 ^ 63)) (sym the_wake)
+            (soon_wake b a last.stamp old.seq d soon);
         fresh = omega (arith, used, fresh, less, the_seq);
       };
     }
 
 -- what comes next, at the same stamp, registers and answers
-pub next-is : (f : Stamp → List ℤ → List (List Hit) → Next) (s t : Stamp) (r q : List ℤ) (a b : List (List Hit)) (n m : Next) → s ≡ t → r ≡ q → a ≡ b → n ≡ f s r a → n ≡ m → f t q b ≡ m
+pub next-is : (f : Stamp → List ℤ → List (List Hit)
+    → Next) (s t : Stamp) (r q : List ℤ) (a b : List (List Hit)) (n m : Next) → s ≡ t → r ≡ q → a ≡ b
+    → n ≡ f s r a → n ≡ m → f t q b ≡ m
 next-is f s t r q a b n m es er ea e g =
     sym (ap (λ x. f x r a) es ∙ (ap (λ x. f t x a) er ∙ ap (λ x. f t q x) ea)) ∙ (sym e ∙ g)
 
 -- what the rule says comes next is to ask
-pub went-ask : (p : Actor) (s : Stamp) (q : Query) (front : List KeptStep) (last : KeptStep) (a : Agent) → last.act ≡ None → s ≡ last.stamp
+pub went-ask : (p : Actor) (s : Stamp) (q : Query) (front : List KeptStep) (last : KeptStep) (a : Agent)
+    → last.act ≡ None → s ≡ last.stamp
     → p.acts last.stamp (regs_after a.base front) (answers last.senses) ≡ next.Ask q
     → asked p.agent s q front last a ≡ go_on p a.base front last.stamp last.senses a.seq
 went-ask p s q front last a n es e =
@@ -134,17 +186,22 @@ went-ask p s q front last a n es e =
     ◌∷◌-sends z = asked p.agent last.stamp q front (record last { act = z }) a
 
 -- what it says comes next is to act
-pub went-act : (p : Actor) (d : Act) (front : List KeptStep) (last : KeptStep) (a : Agent) → p.acts last.stamp (regs_after a.base front) (answers last.senses) ≡ next.Act d
-    → act_sends p.agent a.base front last.stamp last.senses a.seq d (nat_le (later last.stamp.time d.wait) p.horizon) ≡ go_on p a.base front last.stamp last.senses a.seq
+pub went-act : (p : Actor) (d : Act) (front : List KeptStep) (last : KeptStep) (a : Agent)
+    → p.acts last.stamp (regs_after a.base front) (answers last.senses) ≡ next.Act d
+    → act_sends p.agent a.base front last.stamp last.senses a.seq d (nat_le
+    (later last.stamp.time d.wait) p.horizon) ≡ go_on p a.base front last.stamp last.senses a.seq
 went-act p d front last a e = sym (ap (went_on p a.base front last.stamp last.senses a.seq) e)
 
 -- ready with another sense in a place
-pub ready-written : (s : State) (kept : Kept) (at : Place) (p : Spot) (x : KeptSense) → IsReady s → spot_at at s.saved.steps ≡ Some p → kept ≡ with_sense p x s.saved
+pub ready-written : (s : State) (kept : Kept) (at : Place) (p : Spot) (x : KeptSense) → IsReady s
+    → spot_at at s.saved.steps ≡ Some p → kept ≡ with_sense p x s.saved
     → IsReady (record s { saved = kept })
 ready-written s kept at p x h e k = record {
-  timely = subst (λ (z : Kept). AreTimely z.steps) (sym k) (timely-as p.front p.rest p.here (sensed p x) refl (subst AreTimely (spot-steps at s.saved.steps p e) h.timely));
+  timely = subst (λ (z : Kept). AreTimely z.steps) (sym k)
+      (timely-as p.front p.rest p.here (sensed p x) refl (subst AreTimely (spot-steps at s.saved.steps p e) h.timely));
   soon = h.soon;
-  fresh = (let used : kept.used ≡ s.saved.used = ap (λ (z : Kept). z.used) k in let fresh : s.saved.used ≤ s.seq = h.fresh in omega (arith, used, fresh));
+  fresh = (let used : kept.used ≡ s.saved.used = ap (λ
+      (z : Kept). z.used) k in let fresh : s.saved.used ≤ s.seq = h.fresh in omega (arith, used, fresh));
 }
 
 -- what is kept up to a place, with this sense in it
@@ -152,31 +209,43 @@ abbrev pub back_at : Spot → KeptSense → Kept → Kept
 back_at p x k = cut_to (written_at p x) (with_sense p x k)
 
 -- the sense of a place changed, and then all that came after it was dropped
-pub cut-back : (at : Place) (p : Spot) (x : KeptSense) (k one two : Kept) → spot_at at k.steps ≡ Some p → one ≡ with_sense p x k → AtSpot one.steps at (λ q. two ≡ cut_to q one) → two ≡ back_at p x k
+pub cut-back : (at : Place) (p : Spot) (x : KeptSense) (k one two : Kept) → spot_at at k.steps ≡ Some p
+    → one ≡ with_sense p x k → AtSpot one.steps at (λ q. two ≡ cut_to q one) → two ≡ back_at p x k
 cut-back at p x k one two e f g =
-    let there : spot_at at one.steps ≡ Some (written_at p x) = ap (λ (z : Kept). spot_at at z.steps) f ∙ spot-written at k.steps p x e in
+    let there : spot_at at one.steps ≡ Some (written_at p x) = ap (λ (z : Kept). spot_at at z.steps) f
+    ∙ spot-written at k.steps p x e in
     g (written_at p x) there ∙ ap (cut_to (written_at p x)) f
 
 -- ready after a rollback
-pub ready-back : (s : State) (kept : Kept) (at : Place) (p : Spot) (x : KeptSense) → IsReady s → spot_at at s.saved.steps ≡ Some p → kept ≡ back_at p x s.saved → IsReady (record s { saved = kept })
+pub ready-back : (s : State) (kept : Kept) (at : Place) (p : Spot) (x : KeptSense) → IsReady s
+    → spot_at at s.saved.steps ≡ Some p → kept ≡ back_at p x s.saved → IsReady (record s { saved = kept })
 ready-back s kept at p x h e k = record {
   timely = subst (λ (z : Kept). AreTimely z.steps) (sym k)
-      (timely-last-as p.front p.rest p.here (record p.here { senses = p.before ++ x ∷ []; act = None }) refl (subst AreTimely (spot-steps at s.saved.steps p e) h.timely));
+      (timely-last-as p.front p.rest p.here (record p.here { senses = p.before ++ x ∷ []; act = None }) refl
+      (subst AreTimely (spot-steps at s.saved.steps p e) h.timely));
   soon = h.soon;
-  fresh = (let used : kept.used ≡ s.saved.used = ap (λ (z : Kept). z.used) k in let fresh : s.saved.used ≤ s.seq = h.fresh in omega (arith, used, fresh));
+  fresh = (let used : kept.used ≡ s.saved.used = ap (λ
+      (z : Kept). z.used) k in let fresh : s.saved.used ≤ s.seq = h.fresh in omega (arith, used, fresh));
 }
 
 -- ready after a step began
-pub ready-begun : (s : State) (kept : Kept) (w : Awaited) → IsReady s → s.awaited ≡ Some w → kept ≡ with_step (opened w.stamp) s.saved → IsReady (record s { saved = kept })
+pub ready-begun : (s : State) (kept : Kept) (w : Awaited) → IsReady s → s.awaited ≡ Some w
+    → kept ≡ with_step (opened w.stamp) s.saved → IsReady (record s { saved = kept })
 ready-begun s kept w h e k = record {
   timely = subst (λ (z : Kept). AreTimely z.steps) (sym k)
-      (timely-append s.saved.steps (opened w.stamp ∷ []) h.timely (subst (λ (o : Option Awaited). IfSome o (λ (x : Awaited). x.stamp.time < 2 ^ 63)) e h.soon, tt));
+      (timely-append s.saved.steps (opened w.stamp ∷ []) h.timely (
+        subst (λ (o : Option Awaited). IfSome o (λ
+            (x : Awaited). x.stamp.time < 2 ^ 63)) e h.soon,
+        tt,
+      ));
   soon = h.soon;
-  fresh = (let used : kept.used ≡ s.saved.used = ap (λ (z : Kept). z.used) k in let fresh : s.saved.used ≤ s.seq = h.fresh in omega (arith, used, fresh));
+  fresh = (let used : kept.used ≡ s.saved.used = ap (λ
+      (z : Kept). z.used) k in let fresh : s.saved.used ≤ s.seq = h.fresh in omega (arith, used, fresh));
 }
 
 -- a sense in a place, and nothing more
-pub moved-kept : (s : State) (kept : Kept) (at : Place) (p : Spot) (x : KeptSense) (out : List Message) (n : ℕ) → IsReady s → spot_at at s.saved.steps ≡ Some p → kept ≡ with_sense p x s.saved
+pub moved-kept : (s : State) (kept : Kept) (at : Place) (p : Spot) (x : KeptSense) (out : List Message) (n : ℕ)
+    → IsReady s → spot_at at s.saved.steps ≡ Some p → kept ≡ with_sense p x s.saved
     → HasMoved n (no_sends (kept_in (agent_of s) p x)) s (record s { saved = kept }) out out
 moved-kept s kept at p x out n h e k = record {
   agent = ap (λ z. agent z s.awaited s.seq) k;
@@ -186,7 +255,8 @@ moved-kept s kept at p x out n h e k = record {
 }
 
 -- messages were sent before a move
-pub moved-after : (n : ℕ) (r : Sends) (s new : State) (kept : Kept) (first out mid out' : List Message) → mid ≡ out ++ first → HasMoved n r (record s { saved = kept }) new mid out'
+pub moved-after : (n : ℕ) (r : Sends) (s new : State) (kept : Kept) (first out mid out' : List Message)
+    → mid ≡ out ++ first → HasMoved n r (record s { saved = kept }) new mid out'
     → HasMoved n (first_sends first r) s new out out'
 moved-after n r s new kept first out mid out' e h = record {
   agent = h.agent;
@@ -196,7 +266,8 @@ moved-after n r s new kept first out mid out' e h = record {
 }
 
 -- a move from a state whose kept steps changed first
-pub moved-from : (n : ℕ) (r q : Sends) (s new : State) (kept : Kept) (out out' : List Message) → r ≡ q → HasMoved n r (record s { saved = kept }) new out out' → HasMoved n q s new out out'
+pub moved-from : (n : ℕ) (r q : Sends) (s new : State) (kept : Kept) (out out' : List Message) → r ≡ q
+    → HasMoved n r (record s { saved = kept }) new out out' → HasMoved n q s new out out'
 moved-from n r q s new kept out out' e h = record {
   agent = h.agent ∙ ap (λ (z : Sends). z.agent) e;
   sent = h.sent ∙ ap (λ (z : Sends). out ++ z.sent) e;
@@ -205,9 +276,12 @@ moved-from n r q s new kept out out' e h = record {
 }
 
 -- going on from a place, with its sense complete
-pub resumed : (n : ℕ) (p : Actor) (s new : State) (two : Kept) (at : Spot) (x : KeptSense) (out out' : List Message) → two ≡ back_at at x s.saved
-    → AtLast two.steps (λ front last. last.act ≡ None → HasMoved n (go_on p two.base front last.stamp last.senses s.seq) (record s { saved = two }) new out out')
+pub resumed : (n : ℕ) (p : Actor) (s new : State) (two : Kept) (at : Spot) (x : KeptSense)
+    (out out' : List Message) → two ≡ back_at at x s.saved
+    → AtLast two.steps (λ front last. last.act ≡ None
+    → HasMoved n (go_on p two.base front last.stamp last.senses s.seq) (record s { saved = two }) new out out')
     → HasMoved n (go_on p s.saved.base at.front at.here.stamp (at.before ++ x ∷ []) s.seq) s new out out'
 resumed n p s new two at x out out' e h =
-    moved-from n _ _ s new two out out' (ap (λ (z : Kept). go_on p z.base at.front at.here.stamp (at.before ++ x ∷ []) s.seq) e)
+    moved-from n _ _ s new two out out' (ap (λ (z : Kept). go_on p z.base at.front at.here.stamp
+    (at.before ++ x ∷ []) s.seq) e)
     (h at.front (record at.here { senses = at.before ++ x ∷ []; act = None }) (ap (λ (z : Kept). z.steps) e) refl)

@@ -149,7 +149,8 @@ pub record SampleRollbacks : Type 0 where
     seq = 10;
   }
   -- what the second step and the third wrote is withdrawn, and the second one acts anew, under new numbers
-  pub withdraws : sends (by copies) three (hit 4 1 0 2 (Some (val 5))) ≡ cut 5 1 1 ∷ cut 8 2 1 ∷ put 10 1 1 5 ∷ wake 11 2 ∷ []
+  pub withdraws : sends (by copies) three (hit 4 1 0 2 (Some (val 5))) ≡
+      cut 5 1 1 ∷ cut 8 2 1 ∷ put 10 1 1 5 ∷ wake 11 2 ∷ []
   -- the first step stays, the third is gone
   pub goes_back : back ≡ record {
     base = pos 0 ∷ [];
@@ -182,7 +183,8 @@ pub record SampleQueries : Type 0 where
   pub waits : sends (by counts) asked (hit 1 0 5 1 (Some (val 8))) ≡ []
   pub late : sends (by counts) asked done ≡ put 2 0 9 2 ∷ wake 3 1 ∷ []
   -- a hit that was taken back before doesn't count
-  pub taken_back : sends (by counts) (after (by counts) asked (hit 1 0 2 2 None ∷ [])) done ≡ put 2 0 9 1 ∷ wake 3 1 ∷ []
+  pub taken_back : sends (by counts) (after (by counts) asked (hit 1 0 2 2 None ∷ [])) done ≡
+      put 2 0 9 1 ∷ wake 3 1 ∷ []
   -- a hit after the end rolls back, and the end comes no second time
   pub more : sends (by counts) (after (by counts) asked (done ∷ [])) (hit 1 0 5 1 (Some (val 8))) ≡
       cut 2 0 9 ∷ put 4 0 9 3 ∷ wake 5 1 ∷ []

@@ -8,6 +8,8 @@ mod laws;
 mod parts;
 mod state;
 mod takes;
+#[cfg(test)]
+mod tests;
 
 pub use agent::{Agent, Awaited};
 pub use alp::Alp;

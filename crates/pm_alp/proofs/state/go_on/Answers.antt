@@ -12,10 +12,12 @@ use Rattle.pm_alp.proofs.Places.{last-time}
 use Rattle.pm_alp.proofs.state.go_on.Goals as goal
 
 pub next-requires-clause-time : goal.next-requires-clause-time
-next-requires-clause-time c = last-time c.args.state.now.saved.steps c.last.result c.requires.ready.timely c.last.ensures.step c.last.ensures.none c.in-Some.stamp c.in-Some.is
+next-requires-clause-time c = last-time c.args.state.now.saved.steps c.last.result c.requires.ready.timely
+    c.last.ensures.step c.last.ensures.none c.in-Some.stamp c.in-Some.is
 
 pub act-requires-clause-rising : goal.act-requires-clause-rising
-act-requires-clause-rising c = subst (ForAct (λ act. IsRising act.writes)) (sym c.in_ok-then.ensures ∙ c.in-Act.is) (step-rises _ _)
+act-requires-clause-rising c = subst (ForAct (λ act. IsRising act.writes)) (sym c.in_ok-then.ensures
+    ∙ c.in-Act.is) (step-rises _ _)
 
 pub returns-in-Act-clause-moved : goal.returns-in-Act-clause-moved
 returns-in-Act-clause-moved c = on_ok c.act.result _ _
@@ -23,7 +25,11 @@ returns-in-Act-clause-moved c = on_ok c.act.result _ _
     let old = c.args.state.now in
     let p = actor_of c.args.parts.now in
     let told = c.in_ok-answers.ensures front last e in
-    let same = next-is p.acts c.in-Some.stamp last.stamp c.regs.result.now (regs_after old.saved.base front) c.in_ok-answers.answers (answers last.senses) c.in_ok-then.then (next.Act c.in-Act.done)
-    (same_Some c.in-Some.stamp last.stamp (c.in-Some.ensures.step front last e)) (c.regs.ensures.step front last e) told c.in_ok-then.ensures c.in-Act.is in
-    moved-as (2 ^ 32 + 1) (2 ^ 32 + 1) _ _ old c.act.new.state c.args.out.now c.act.new.out (omega arith) (went-act p c.in-Act.done front last (agent_of old) same) (moved front last e told))
+    let same = next-is p.acts c.in-Some.stamp last.stamp c.regs.result.now
+    (regs_after old.saved.base front) c.in_ok-answers.answers (answers last.senses) c.in_ok-then.then
+    (next.Act c.in-Act.done)
+    (same_Some c.in-Some.stamp last.stamp (c.in-Some.ensures.step front last e))
+    (c.regs.ensures.step front last e) told c.in_ok-then.ensures c.in-Act.is in
+    moved-as (2 ^ 32 + 1) (2 ^ 32 + 1) _ _ old c.act.new.state c.args.out.now c.act.new.out (omega arith)
+    (went-act p c.in-Act.done front last (agent_of old) same) (moved front last e told))
     c.act.ensures.moved
