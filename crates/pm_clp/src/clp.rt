@@ -1,6 +1,6 @@
 // A communication process.
 ghost use Rattle.std.specs.Prelude.{◌≡◌, ◌<◌, ◌+◌, ◌^◌, [], ◌∷◌, ◌++◌, false, if◌then◌else◌, filter, get_or, length};
-ghost use Rattle.std.specs.Prelude.{map, IfOk, OnOk, Some};
+ghost use Rattle.std.specs.Prelude.{map, IfOk, None, OnOk, Some};
 ghost use Rattle.std.specs.Option.{option_to_list};
 ghost use Rattle.pm_base.specs.Windows.{is_inverted};
 ghost use Rattle.pm_base.specs.Layouts.{var_count};
@@ -8,6 +8,7 @@ ghost use Rattle.pm_clp.specs.Clps.{after_finish, at_record, catch_up, clp_commi
 ghost use Rattle.pm_clp.specs.Clps.{on_grow, sent_on};
 ghost use Rattle.pm_clp.specs.Clps.{take_cut, take_put, take_watch, tell, tell_from, tell_one, tell_periods, telling};
 ghost use Rattle.pm_clp.specs.Clps.{to_agent, watch_all};
+ghost use Rattle.pm_periods.specs.Periods.{periods_from};
 ghost use Rattle.pm_routes.specs.Routings.{place_of, way_at};
 ghost use Rattle.pm_routes.specs.declared.way.Way.TheVariants as way;
 ghost use Rattle.pm_clp.specs.Views.{Did, DidRaise, give_to, leave, others, sent_if, sent_off};
@@ -283,7 +284,7 @@ impl Clp {
     {
         let class = self.layout.class_of(var);
         let place = self.place_of(port);
-        let periods = held.periods_from(alloc, None)?;
+        let periods = all_periods(alloc, &held)?;
         self.bound
             .grow_periods(alloc, place, class, periods.as_slice())?;
         self.routes.leave(var, port);
@@ -496,4 +497,11 @@ fn floor_of(line: &Line) -> Stamp
         Line::At(stamp) => *stamp,
         Line::End => Stamp { time: 0, agent: 0 },
     }
+}
+
+// The periods of a record from its first value on.
+pub(crate) fn all_periods(alloc: Global, held: &VarRecord) -> Result<List<Period>, Memory>
+    ensures { IfOk result (λ periods. periods ≡ periods_from held.now.parts None) }
+{
+    held.periods_from(alloc, None)
 }

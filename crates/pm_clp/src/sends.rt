@@ -13,7 +13,7 @@ ghost use Rattle.pm_queries.specs.Queries.{add_reg, class_queries, has_reg};
 ghost use Rattle.pm_routes.specs.Routings.{way_at};
 ghost use Rattle.pm_routes.specs.declared.way.Way.TheVariants as way;
 
-use crate::clp::Clp;
+use crate::clp::{Clp, all_periods};
 use pm_base::{ClassRow, CutRow, List, Memory, Num, Parts, PutRow, Query, Stamp, Window};
 use pm_message::Message;
 use pm_periods::VarRecord;
@@ -289,7 +289,7 @@ impl Clp {
         let held = VarRecord::from_parts(alloc, var, parts)?;
         let class = self.class_of(var);
         let place = self.place_of(from);
-        let periods = held.periods_from(alloc, None)?;
+        let periods = all_periods(alloc, &held)?;
         self.told
             .grow_periods(alloc, place, class, periods.as_slice())?;
         self.routes.arrive(var);

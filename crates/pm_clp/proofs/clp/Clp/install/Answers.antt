@@ -22,7 +22,7 @@ returns c =
     let place = c.place_of-place.ensures ∙ ap (λ (v : ClpView). place_of v.hub.ports c.args.from)
     (sym c.self.view_is) in
     let class = c.class_of-class.ensures ∙ ap (λ (v : ClpView). class_at v.hub c.args.var) (sym c.self.view_is) in
-    let periods = c.as_slice.ensures ∙ c.in_ok-periods.ensures.value
+    let periods = c.as_slice.ensures ∙ c.in_ok-periods.ensures
     ∙ ap (λ (q : Record). periods_from q.parts None) c.in_ok-held.ensures in
     let told = grown_off i.ports c.args.from c.class_of-class.result (class_at h c.args.var) c.place_of-place.result
     c.as_slice.result.now

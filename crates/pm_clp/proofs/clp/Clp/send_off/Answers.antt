@@ -17,7 +17,7 @@ returns c =
     let grown = grown_off i.ports c.args.port c.class_of-class.result (class_at h c.args.var)
     c.place_of-place.result c.as_slice.result.now
     (periods_from c.args.held.parts None) i.bound c.grow_periods.new.self c.in_ok-grow_periods.ensures place class
-    (c.as_slice.ensures ∙ c.in_ok-periods.ensures.value) in
+    (c.as_slice.ensures ∙ c.in_ok-periods.ensures) in
     on_ok c.push.result
     (λ sent. subst (λ (z : ClpView). Did z
     (record {
