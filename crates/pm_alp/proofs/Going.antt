@@ -87,9 +87,9 @@ soon_wake : (b : Bool) (a : ℕ) (s : Stamp) (n : ℕ) (d : Act) → (b ≡ true
 soon_wake true a s n d h = h refl
 soon_wake false a s n d h = tt
 
-seq_low : (b : Bool) (n : ℕ) → n ≤ next_seq b n
-seq_low true n = omega arith
-seq_low false n = omega arith
+pub seq-low : (b : Bool) (n : ℕ) → n ≤ next_seq b n
+seq-low true n = omega arith
+seq-low false n = omega arith
 
 seq_high : (b : Bool) (n : ℕ) → next_seq b n ≤ n + 1
 seq_high true n = omega arith
@@ -143,7 +143,7 @@ acts many a horizon d answer nums old kept wake seq out mid out' front last stam
     let soon : b ≡ true → later last.stamp.time d.wait < 2 ^ 63 = λ t. grind (arith, nat_tests, low, t) in
     let high : next_seq b (old.seq + length d.writes) ≤ old.seq + length d.writes + 1 = seq_high b
     (old.seq + length d.writes) in
-    let less : old.seq + length d.writes ≤ next_seq b (old.seq + length d.writes) = seq_low b
+    let less : old.seq + length d.writes ≤ next_seq b (old.seq + length d.writes) = seq-low b
     (old.seq + length d.writes) in
     let used : kept.used ≡ old.saved.used = ap (λ (z : Kept). z.used) the_kept in
     let fresh : old.saved.used ≤ old.seq = h.fresh in

@@ -1,4 +1,5 @@
 pub mod AgentLaws
+pub mod Backs
 pub mod Few
 pub mod Going
 pub mod Places

@@ -9,7 +9,6 @@ use Rattle.pm_base.specs.declared.value.Change.TheVariants as change
 use Rattle.pm_base.specs.declared.value.Hit.{Hit}
 use Rattle.pm_base.specs.declared.value.Query.TheVariants as query
 use Rattle.pm_base.specs.declared.value.Value.{Value}
-use Rattle.pm_base.specs.declared.value.Write.{Write}
 use Rattle.pm_message.specs.declared.Message.{Message}
 use Rattle.pm_message.specs.declared.Message.TheVariants as message
 use Rattle.pm_saved.specs.Steps.{hand_out}

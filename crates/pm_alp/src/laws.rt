@@ -1,6 +1,7 @@
 // Laws of the definitions.
 ghost use Rattle.std.specs.Prelude.{◌≡◌, ◌≤◌, Some};
 ghost use Rattle.pm_alp.specs.Agents.{Actor, agent_after, no_agent, no_sends};
+ghost use Rattle.pm_alp.specs.Laws.{ChangesGoBack, NumbersOnlyRise};
 ghost use Rattle.pm_alp.specs.Sample.{SampleEnds, SampleQueries, SampleRollbacks, SampleSenses};
 ghost use Rattle.pm_alp.specs.declared.agent.Agent.{Agent as TheAgent};
 ghost use Rattle.pm_base.specs.declared.rows.GiveRow.{GiveRow as TheGive};
@@ -20,6 +21,17 @@ pub fn no_wake_without_waiting()
 pub fn an_older_turn_changes_nothing()
     ensures { (p : Actor) (a : TheAgent) (r : TheGive) (spot : Spot) → find r.num a.steps ≡ Some spot →
         r.turn ≤ kept_turn r.var spot.sense.hits → agent_after p a (message.Give r) ≡ no_sends a }
+{}
+
+/// An agent's next number never falls, whatever it takes: no number is used twice.
+pub fn numbers_only_rise()
+    ensures { NumbersOnlyRise }
+{}
+
+/// A hit with a new turn that changes what a complete sense answered is a rollback: what stands before the sense stays,
+/// all that came after it is gone, and the writes from its step on are withdrawn before anything else is sent.
+pub fn changes_go_back()
+    ensures { ChangesGoBack }
 {}
 
 /// Worked rows: steps, and a rollback to the second of three.

@@ -14,7 +14,7 @@ mod tests;
 pub use agent::{Agent, Awaited};
 pub use alp::Alp;
 pub use laws::{
-    an_older_turn_changes_nothing, no_wake_without_waiting, sample_ends, sample_queries,
-    sample_rollbacks, sample_senses,
+    an_older_turn_changes_nothing, changes_go_back, no_wake_without_waiting, numbers_only_rise,
+    sample_ends, sample_queries, sample_rollbacks, sample_senses,
 };
 pub use parts::AlpParts;
