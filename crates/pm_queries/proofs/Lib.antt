@@ -7,3 +7,4 @@ pub mod Layouts
 pub mod Calls
 pub mod Registers
 pub mod Kept
+pub mod Counts

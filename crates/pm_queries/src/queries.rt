@@ -1,4 +1,4 @@
-ghost use Rattle.std.specs.Prelude.{◌≡◌, ◌<◌, ◌++◌, [], false, cond, length, map, filter, None, OnOk, OnErr};
+ghost use Rattle.std.specs.Prelude.{◌≡◌, ◌<◌, ◌-◌, ◌^◌, ◌++◌, [], false, cond, length, map, min, filter, None, OnOk, OnErr};
 ghost use Rattle.std.specs.BTreeMap.{get};
 ghost use Rattle.std.specs.Option.{option_to_list};
 ghost use Rattle.pm_base.specs.declared.stamp.Num.{Num as TheNum};
@@ -52,6 +52,13 @@ impl Queries {
         ensures { result ≡ has_reg num self.now }
     {
         self.spots.contains_key(&num)
+    }
+
+    /// How many queries are registered, at most `u64::MAX`. It goes over the classes, and takes no memory.
+    pub fn count(&self) -> u64
+        ensures { result ≡ min (length self.now) (2 ^ 64 - 1) }
+    {
+        count_of(self.classes.as_slice())
     }
 
     /// Registers a query of a new number. After `Memory` the queries are as they were.
@@ -134,6 +141,16 @@ impl Queries {
     {
         drop_below(&mut self.classes, &mut self.spots, &line);
     }
+}
+
+fn count_of(classes: &[ClassRows]) -> u64
+    ensures { result ≡ min (length (merged classes.now)) (2 ^ 64 - 1) }
+{
+    let mut count: u64 = 0;
+    for rows in classes {
+        count = count.saturating_add(rows.as_slice().len() as u64);
+    }
+    count
 }
 
 /// Empty classes are appended, until there is that one. After `Memory` some may have been.
