@@ -6,3 +6,7 @@ pub mod Turns
 pub mod Acts
 pub mod Fitting
 pub mod Taking
+pub mod Sets
+pub mod Slots
+pub mod Counting
+pub mod Watching

@@ -310,8 +310,11 @@ impl Clp {
         ensures { OnOk result (Did self.old self.new out.old out.new
             (watch_all self.old.hub num stamp window row.first row.count)) }
     {
-        for k in 0..row.count {
-            self.record_watch(alloc, row.first + k, num, stamp, window, out)?;
+        let end = row.first + row.count;
+        let mut at = self.next_here(row.first, end);
+        while at < end {
+            self.record_watch(alloc, at, num, stamp, window, out)?;
+            at = self.next_here(at + 1, end);
         }
         Ok(())
     }

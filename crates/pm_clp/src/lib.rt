@@ -5,10 +5,12 @@
 mod clp;
 mod deliver;
 mod firsts;
+mod kept;
 mod laws;
 mod records;
 mod sends;
 mod takes;
+mod var_set;
 
 pub use clp::Clp;
 pub use firsts::ClpParts;

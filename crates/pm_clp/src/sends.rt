@@ -293,8 +293,7 @@ impl Clp {
         self.told
             .grow_periods(alloc, place, class, periods.as_slice())?;
         self.routes.arrive(var);
-        self.records.install(var, held);
-        Ok(())
+        self.records.install(var, held)
     }
 
     // The query of that place among those of the class.

@@ -5,7 +5,7 @@ use Rattle.pm_routes.specs.Routings.{place_of}
 use Rattle.pm_clp.specs.Clps.{class_at}
 use Rattle.pm_clp.specs.Kept.{TurnsUpTo}
 use Rattle.pm_clp.specs.Views.{ClpView, hub_of}
-use Rattle.pm_clp.proofs.Steps.{grown_off, put_in}
+use Rattle.pm_clp.proofs.Steps.{grown_off, on_ok, put_in}
 use Rattle.pm_clp.proofs.Turns.{settled_turns}
 use Rattle.pm_clp.proofs.clp.Clp.install.Goals as goal
 
@@ -27,7 +27,9 @@ returns c =
     let told = grown_off i.ports c.args.from c.class_of-class.result (class_at h c.args.var) c.place_of-place.result
     c.as_slice.result.now
     (periods_from r None) i.told c.grow_periods.new.self c.in_ok-grow_periods.ensures place class periods in
-    put_in h i.records i.routes i.line i.queries i.bound i.told c.install.new.self c.arrive.new.self
+    on_ok c.install.result
+    (λ kept. put_in h i.records i.routes i.line i.queries i.bound i.told c.install.new.self c.arrive.new.self
     c.grow_periods.new.self i.made i.spoilt c.args.from c.args.var
-    c.in_ok-held.held.parts r c.args.self.now c.self.view_is c.install.ensures c.arrive.ensures told
-    (ap (λ (q : Record). q.parts) c.in_ok-held.ensures)
+    c.in_ok-held.held.parts r c.args.self.now c.self.view_is kept c.arrive.ensures told
+    (ap (λ (q : Record). q.parts) c.in_ok-held.ensures))
+    c.install.ensures.ok
