@@ -1,5 +1,7 @@
 -- The hits of a sense, in order of variable.
-use Rattle.std.proofs.Common.{◌≡◌, refl, sym, ◌∙◌, ap, subst, ℤ, ℕ, zero, suc, ◌+◌, ◌<◌, ◌≤◌, ◌==◌, ◌&&◌, nat_lt, Bool, true, false, not, is_some, List, [], ◌∷◌, ◌++◌, length, get_or, set, take, drop, slice_get, append_assoc, arith, Option, Some, None, inl, inr}
+use Rattle.std.proofs.Common.{◌≡◌, refl, sym, ◌∙◌, ap, subst, ℤ, ℕ, zero, suc, ◌+◌, ◌<◌, ◌≤◌, ◌==◌, ◌&&◌, nat_lt}
+use Rattle.std.proofs.Common.{Bool, true, false, not, is_some, List, [], ◌∷◌, ◌++◌, length, get_or, set, take, drop}
+use Rattle.std.proofs.Common.{slice_get, append_assoc, arith, Option, Some, None, inl, inr}
 use Rattle.std.proofs.lemmas.Bool.{cases_Bool}
 use Rattle.std.proofs.lemmas.Bool.Decides.{Decides-int_eq, nat_tests}
 use Rattle.std.proofs.lemmas.List.{drop_more}
@@ -20,12 +22,16 @@ abbrev pub Above : ℕ → List KeptHit → Type 0
 Above v ks = AllByRecursion (λ (k : KeptHit). v < k.var) ks
 
 above_weaker : (v w : ℕ) (ks : List KeptHit) → w ≤ v → Above v ks → Above w ks
-above_weaker v w ks le h = each_weaker (λ (k : KeptHit). v < k.var) (λ (k : KeptHit). w < k.var) (λ k lt. omega arith) ks h
+above_weaker v w ks le h = each_weaker (λ (k : KeptHit). v < k.var) (λ (k : KeptHit). w < k.var)
+    (λ k lt. omega arith) ks h
 
 pub hits-parted : (v : ℕ) (ks : List KeptHit) → HitsRise ks → Parted (λ k. nat_lt k.var v) ks
 hits-parted v [] h = tt
-hits-parted v (k ∷ ks) h =
-    ((λ f. each_weaker (λ (j : KeptHit). k.var < j.var) (λ (j : KeptHit). nat_lt j.var v ≡ false) (λ j lt. grind (arith, nat_tests)) ks h.0), hits-parted v ks h.1)
+hits-parted v (k ∷ ks) h = (
+  (λ f. each_weaker (λ (j : KeptHit). k.var < j.var) (λ (j : KeptHit). nat_lt j.var v
+      ≡ false) (λ j lt. grind (arith, nat_tests)) ks h.0),
+  hits-parted v ks h.1,
+)
 
 none_above : (v : ℕ) (ks : List KeptHit) → Above v ks → kept_for v ks ≡ None
 none_above v [] h = refl
@@ -65,7 +71,8 @@ hit-kept v (k ∷ ks) = elim (cases_Bool (k.var == v)) [
 ]
 
 -- a hit is kept in its place
-pub kept-set : (k : KeptHit) (ks : List KeptHit) → is_some (only k.var (slice_get ks (place_of k.var ks))) ≡ true → set ks (place_of k.var ks) k ≡ add_kept k ks
+pub kept-set : (k : KeptHit) (ks : List KeptHit) → is_some (only k.var (slice_get ks (place_of k.var ks))) ≡ true
+    → set ks (place_of k.var ks) k ≡ add_kept k ks
 kept-set k [] h = absurd cc
 kept-set k (x ∷ xs) h = elim (cases_Bool (nat_lt x.var k.var)) [
   | inl t ↦ (
@@ -125,11 +132,16 @@ shown-split : (v : ℕ) (o : Option Value) (hs : List Hit) → shown_before v o 
 shown-split v None hs = refl
 shown-split v (Some x) hs = refl
 
-pub answer-more : (ks : List KeptHit) (i : ℕ) (d : KeptHit) (all all' : List Hit) → i < length ks → all ++ answer (drop i ks) ≡ answer ks
-    → all' ≡ all ++ shown_before (get_or ks i d).var (get_or ks i d).hit [] → all' ++ answer (drop (i + 1) ks) ≡ answer ks
+pub answer-more : (ks : List KeptHit) (i : ℕ) (d : KeptHit) (all all' : List Hit) → i < length ks
+    → all ++ answer (drop i ks) ≡ answer ks
+    → all' ≡ all ++ shown_before (get_or ks i d).var (get_or ks i d).hit []
+    → all' ++ answer (drop (i + 1) ks) ≡ answer ks
 answer-more ks i d all all' lt inv e =
     let k = get_or ks i d in
-    ap (λ z. z ++ answer (drop (i + 1) ks)) e ∙ (append_assoc all (shown_before k.var k.hit []) (answer (drop (i + 1) ks)) ∙ (ap (λ z. all ++ z) (shown-split k.var k.hit (answer (drop (i + 1) ks)) ∙ sym (ap answer (drop_more ks i d lt))) ∙ inv))
+    ap (λ z. z ++ answer (drop (i + 1) ks)) e
+    ∙ (append_assoc all (shown_before k.var k.hit []) (answer (drop (i + 1) ks))
+    ∙ (ap (λ z. all ++ z) (shown-split k.var k.hit (answer (drop (i + 1) ks))
+    ∙ sym (ap answer (drop_more ks i d lt))) ∙ inv))
 
 -- whether an answer changes
 eq_self : (n : ℕ) → (n == n) ≡ true
@@ -156,24 +168,29 @@ answer_above : (v : ℕ) (ks : List KeptHit) → Above v ks → HitsAbove v (ans
 answer_above v [] h = tt
 answer_above v (k ∷ ks) h = shown_above v k.var k.hit (answer ks) h.0 (answer_above v ks h.1)
 
-first_more : (v : ℕ) (x : Value) (hs : List Hit) → HitsAbove v hs → hits_eq (record { var = v; value = x } ∷ hs) hs ≡ false
+first_more : (v : ℕ) (x : Value) (hs : List Hit) → HitsAbove v hs
+    → hits_eq (record { var = v; value = x } ∷ hs) hs ≡ false
 first_more v x [] h = refl
 first_more v x (y ∷ ys) h = let ne : (v == y.var) ≡ false = grind (arith, nat_tests) in rw ne refl
 
-first_less : (v : ℕ) (x : Value) (hs : List Hit) → HitsAbove v hs → hits_eq hs (record { var = v; value = x } ∷ hs) ≡ false
+first_less : (v : ℕ) (x : Value) (hs : List Hit) → HitsAbove v hs
+    → hits_eq hs (record { var = v; value = x } ∷ hs) ≡ false
 first_less v x [] h = refl
 first_less v x (y ∷ ys) h = let ne : (y.var == v) ≡ false = grind (arith, nat_tests) in rw ne refl
 
 -- a hit that is new
-shown_new : (v : ℕ) (o : Option Value) (hs : List Hit) → HitsAbove v hs → hits_eq (shown_before v o hs) hs ≡ same_hit o None
+shown_new : (v : ℕ) (o : Option Value) (hs : List Hit) → HitsAbove v hs
+    → hits_eq (shown_before v o hs) hs ≡ same_hit o None
 shown_new v None hs h = hits_self hs
 shown_new v (Some x) hs h = first_more v x hs h
 
 -- a hit in the place of another
-shown_instead : (v w : ℕ) (o p : Option Value) (hs : List Hit) → (v == w) ≡ true → HitsAbove w hs → hits_eq (shown_before v o hs) (shown_before w p hs) ≡ same_hit o p
+shown_instead : (v w : ℕ) (o p : Option Value) (hs : List Hit) → (v == w) ≡ true → HitsAbove w hs
+    → hits_eq (shown_before v o hs) (shown_before w p hs) ≡ same_hit o p
 shown_instead v w None None hs e h = hits_self hs
 shown_instead v w None (Some y) hs e h = first_less w y hs h
-shown_instead v w (Some x) None hs e h = let s : v ≡ w = grind (arith, nat_tests) in first_more v x hs (subst (λ n. HitsAbove n hs) (sym s) h)
+shown_instead v w (Some x) None hs e h = let s : v
+    ≡ w = grind (arith, nat_tests) in first_more v x hs (subst (λ n. HitsAbove n hs) (sym s) h)
 shown_instead v w (Some x) (Some y) hs e h = rw (e, hits_self hs) (and_true (value_eq x y))
   where
     and_true : (b : Bool) → b && true ≡ b
@@ -181,21 +198,24 @@ shown_instead v w (Some x) (Some y) hs e h = rw (e, hits_self hs) (and_true (val
     and_true false = refl
 
 -- a hit before others
-shown_same : (v : ℕ) (o : Option Value) (gs hs : List Hit) → hits_eq (shown_before v o gs) (shown_before v o hs) ≡ hits_eq gs hs
+shown_same : (v : ℕ) (o : Option Value) (gs hs : List Hit)
+    → hits_eq (shown_before v o gs) (shown_before v o hs) ≡ hits_eq gs hs
 shown_same v None gs hs = refl
 shown_same v (Some x) gs hs = rw (eq_self v, value_self x) refl
 
 none_kept : (v : ℕ) (ks : List KeptHit) → Above v ks → kept_hit v ks ≡ None
 none_kept v ks h = hit-kept v ks ∙ ap hit_in (none_above v ks h)
 
-pub answer-changes : (k : KeptHit) (ks : List KeptHit) → HitsRise ks → hits_eq (answer (add_kept k ks)) (answer ks) ≡ same_hit k.hit (kept_hit k.var ks)
+pub answer-changes : (k : KeptHit) (ks : List KeptHit) → HitsRise ks
+    → hits_eq (answer (add_kept k ks)) (answer ks) ≡ same_hit k.hit (kept_hit k.var ks)
 answer-changes k [] h = shown_new k.var k.hit [] tt
 answer-changes k (x ∷ xs) h = elim (cases_Bool (nat_lt k.var x.var)) [
   | inl t ↦ (
       let ne : (x.var == k.var) ≡ false = grind (arith, nat_tests) in
       let lt : k.var < x.var = grind (arith, nat_tests) in
       let above : Above k.var xs = above_weaker x.var k.var xs (omega arith) h.0 in
-      rw (t, ne, none_kept k.var xs above) (shown_new k.var k.hit (answer (x ∷ xs)) (answer_above k.var (x ∷ xs) (lt, above))))
+      rw (t, ne, none_kept k.var xs above) (shown_new k.var k.hit (answer (x ∷ xs)) (answer_above k.var (x ∷ xs)
+      (lt, above))))
   | inr f ↦ elim (cases_Bool (k.var == x.var)) [
     | inl e ↦ (
         let eq : (x.var == k.var) ≡ true = grind (arith, nat_tests) in

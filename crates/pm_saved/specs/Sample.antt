@@ -62,8 +62,9 @@ spot = record { front = []; here = acted; before = []; sense = asked; later = []
 abbrev pub kept : List KeptStep → Kept
 kept steps = record { base = []; steps = steps; used = 2 }
 
--- the sense is found in the step; there the one write is withdrawn, under its own number and at the step's moment; after
--- the step was cut back to its sense it stands without its end, and the end of time hands nothing out, as it would before
+-- the sense is found in the step; there the one write is withdrawn, under its own number and at the step's moment;
+-- after the step was cut back to its sense it stands without its end, and the end of time hands nothing out, as it
+-- would before
 pub record SampleSaved : Type 0 where
   pub found : find (num 1) (acted ∷ []) ≡ Some spot
   pub withdraws : withdrawn (acted ∷ []) ≡ message.Cut (num 2) moment 1 ∷ []

@@ -83,7 +83,9 @@ pub fn finish_in(held: &mut Held, at: usize)
 pub fn keep_in(held: &mut Held, at: usize, hit: KeptHit) -> Result<(), Memory>
     requires { (n : ℕ) × Fits n held.old }
     ensures step { OnOk result ((i : InStep) → sense_at at held.old.senses.items ≡ Some i → step_of held.new ≡
-        record (step_of held.old) { senses = i.before ++ record i.sense { hits = add_kept hit i.sense.hits } ∷ i.later }) }
+        record (step_of held.old) {
+          senses = i.before ++ record i.sense { hits = add_kept hit i.sense.hits } ∷ i.later;
+        }) }
     ensures same { OnErr result (step_of held.new ≡ step_of held.old) }
     ensures next { held.new.next ≡ held.old.next }
     ensures fits { (n : ℕ) → Fits n held.old → Fits n held.new }
@@ -97,7 +99,8 @@ pub fn keep_in(held: &mut Held, at: usize, hit: KeptHit) -> Result<(), Memory>
 // Adds a sense.
 pub fn ask_in(held: &mut Held, sense: KeptSense) -> Result<(), Memory>
     requires { sense.num.seq + 1 < 2 ^ 64 }
-    ensures step { OnOk result (step_of held.new ≡ record (step_of held.old) { senses = held.old.senses.items ++ sense ∷ [] }) }
+    ensures step { OnOk result (step_of held.new ≡
+        record (step_of held.old) { senses = held.old.senses.items ++ sense ∷ [] }) }
     ensures next { OnOk result (held.new.next ≡ sense.num.seq + 1) }
     ensures same { OnErr result ((step_of held.new ≡ step_of held.old) × (held.new.next ≡ held.old.next)) }
 {

@@ -15,7 +15,8 @@ mod tests;
 
 pub use kept::{KeptAct, KeptHit, KeptSense, KeptStep};
 pub use laws::{
-    a_line_divides_the_steps, places_have_their_number, steps_are_withdrawn_one_by_one,
+    a_line_divides_the_steps, places_have_their_number, sample_saved,
+    steps_are_withdrawn_one_by_one,
 };
 pub use saved::Saved;
 pub use spot::Spot;

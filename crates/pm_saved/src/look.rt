@@ -117,8 +117,8 @@ impl Saved {
         }
     }
 
-    /// Sends the anti-messages of the writes of that place's step and of all later steps, in order of step and variable.
-    /// After `Memory` some of them may have been sent.
+    /// Sends the anti-messages of the writes of that place's step and of all later steps, in order of step and
+    /// variable. After `Memory` some of them may have been sent.
     pub fn withdrawn(&self, at: Spot, out: &mut List<Message>) -> Result<(), Memory>
         ensures ok { OnOk result (AtSpot self.now.steps at (λ s. out.new ≡ out.old ++ withdrawn (s.here ∷ s.rest))) }
         ensures grown { HasGrown out.old out.new }

@@ -65,8 +65,8 @@ impl Saved {
         Ok(())
     }
 
-    /// Adds a sense of the last step, where there is a step. Its number comes after all under which senses asked so far.
-    /// After `Memory` nothing has changed.
+    /// Adds a sense of the last step, where there is a step. Its number comes after all under which senses asked so
+    /// far. After `Memory` nothing has changed.
     pub fn ask(&mut self, alloc: Global, num: Num, query: Query) -> Result<(), Memory>
         requires after { self.old.used ≤ num.seq }
         requires small { num.seq + 1 < 2 ^ 64 }
@@ -88,7 +88,8 @@ impl Saved {
     /// Keeps a hit of the sense at this place, with its turn. After `Memory` nothing has changed.
     pub fn keep(&mut self, at: Spot, var: u32, turn: u64, hit: Option<Value>) -> Result<(), Memory>
         ensures ok { OnOk result (AtSpot self.old.steps at (λ s. self.new ≡ with_sense s
-            (record s.sense { hits = add_kept (record { var = var; turn = turn; hit = hit }) s.sense.hits }) self.old)) }
+            (record s.sense { hits = add_kept (record { var = var; turn = turn; hit = hit }) s.sense.hits })
+            self.old)) }
         ensures err { OnErr result (self.new ≡ self.old) }
     {
         keep_at(&mut self.steps, at, KeptHit { var, turn, hit })?;

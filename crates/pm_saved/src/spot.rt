@@ -1,5 +1,5 @@
-/// A sense's place among the kept steps: its step, counted from the first kept one, and its place in the step, both from
-/// 0 on.
+/// A sense's place among the kept steps: its step, counted from the first kept one, and its place in the step, both
+/// from 0 on.
 #[derive(Clone, Copy, Debug, PartialEq, Eq)]
 pub struct Spot {
     pub step: usize,

@@ -93,7 +93,8 @@ pub fn finish_at(steps: &mut VecDeque<Held>, at: Spot)
 pub fn keep_at(steps: &mut VecDeque<Held>, at: Spot, hit: KeptHit) -> Result<(), Memory>
     requires { (m : ℕ) × NumbersRise 0 steps.old.items m }
     ensures step { OnOk result (AtSpot (steps_of steps.old.items) at (λ s. steps_of steps.new.items ≡ s.front ++
-        record s.here { senses = s.before ++ record s.sense { hits = add_kept hit s.sense.hits } ∷ s.later } ∷ s.rest)) }
+        record s.here { senses = s.before ++ record s.sense { hits = add_kept hit s.sense.hits } ∷ s.later } ∷
+        s.rest)) }
     ensures same { OnErr result (steps_of steps.new.items ≡ steps_of steps.old.items) }
     ensures rise { (m : ℕ) → NumbersRise 0 steps.old.items m → NumbersRise 0 steps.new.items m }
 {

@@ -11,4 +11,5 @@ returns-clause-place c =
     let q = c.args.seq in
     let parted = parted-is (λ s. nat_lt s.num.seq q) xs (senses-parted q c.requires.0 xs c.requires.1 c.requires.2) in
     passing-found (λ s. nat_lt s.num.seq q) xs c.partition_point.result c.partition_point.ensures.bound
-    (IsPartitionPoint-from_clause (λ s. nat_lt s.num.seq q) _ _ c.partition_point.ensures.partitioned parted (λ a r q k. search rules))
+    (IsPartitionPoint-from_clause (λ s. nat_lt s.num.seq q) _ _ c.partition_point.ensures.partitioned parted
+    (λ a r q k. search rules))

@@ -5,4 +5,5 @@ use Rattle.pm_saved.proofs.hits.changes.Goals as goal
 
 pub returns : goal.returns
 returns c =
-    ap not (c.is_same_hit.ensures ∙ (ap (same_hit c.args.hit.hit) c.hit_of.ensures ∙ sym (answer-changes c.args.hit c.args.hits.now c.requires)))
+    ap not (c.is_same_hit.ensures ∙ (ap (same_hit c.args.hit.hit) c.hit_of.ensures
+    ∙ sym (answer-changes c.args.hit c.args.hits.now c.requires)))

@@ -9,7 +9,8 @@ returns-then-is_at-clause-ok c =
     let hits = c.args.hits.now in
     let k = c.args.hit in
     let place : c.place_of-at.result ≡ place_of k.var hits = rw c.as_slice.ensures at c.place_of-at.ensures.place in
-    let there : is_some (only k.var (slice_get hits (place_of k.var hits))) ≡ true = rw (c.as_slice-2.ensures, place) at (sym c.is_at.ensures ∙ c.if-is_at.true) in
+    let there : is_some (only k.var (slice_get hits (place_of k.var hits)))
+    ≡ true = rw (c.as_slice-2.ensures, place) at (sym c.is_at.ensures ∙ c.if-is_at.true) in
     c.set.ensures ∙ (ap (λ (i : ℕ). set hits i k) place ∙ kept-set k hits there)
 
 pub returns-then-is_at-clause-rise : goal.returns-then-is_at-clause-rise
@@ -17,15 +18,18 @@ returns-then-is_at-clause-rise c =
     let hits = c.args.hits.now in
     let k = c.args.hit in
     let place : c.place_of-at.result ≡ place_of k.var hits = rw c.as_slice.ensures at c.place_of-at.ensures.place in
-    let there : is_some (only k.var (slice_get hits (place_of k.var hits))) ≡ true = rw (c.as_slice-2.ensures, place) at (sym c.is_at.ensures ∙ c.if-is_at.true) in
-    subst HitsRise (sym (c.set.ensures ∙ (ap (λ (i : ℕ). set hits i k) place ∙ kept-set k hits there))) (kept-rise k hits c.requires)
+    let there : is_some (only k.var (slice_get hits (place_of k.var hits)))
+    ≡ true = rw (c.as_slice-2.ensures, place) at (sym c.is_at.ensures ∙ c.if-is_at.true) in
+    subst HitsRise (sym (c.set.ensures ∙ (ap (λ (i : ℕ). set hits i k) place
+    ∙ kept-set k hits there))) (kept-rise k hits c.requires)
 
 pub returns-in_ok-insert-clause-ok : goal.returns-in_ok-insert-clause-ok
 returns-in_ok-insert-clause-ok c =
     let hits = c.args.hits.now in
     let k = c.args.hit in
     let place : c.place_of-at.result ≡ place_of k.var hits = rw c.as_slice.ensures at c.place_of-at.ensures.place in
-    let there : is_some (only k.var (slice_get hits (place_of k.var hits))) ≡ false = rw (c.as_slice-2.ensures, place) at (sym c.is_at.ensures ∙ c.if-is_at.false) in
+    let there : is_some (only k.var (slice_get hits (place_of k.var hits)))
+    ≡ false = rw (c.as_slice-2.ensures, place) at (sym c.is_at.ensures ∙ c.if-is_at.false) in
     rw (place, kept-insert k hits there) at c.in_ok-insert.ensures.ok
 
 pub returns-in_ok-insert-clause-rise : goal.returns-in_ok-insert-clause-rise
@@ -33,6 +37,7 @@ returns-in_ok-insert-clause-rise c =
     let hits = c.args.hits.now in
     let k = c.args.hit in
     let place : c.place_of-at.result ≡ place_of k.var hits = rw c.as_slice.ensures at c.place_of-at.ensures.place in
-    let there : is_some (only k.var (slice_get hits (place_of k.var hits))) ≡ false = rw (c.as_slice-2.ensures, place) at (sym c.is_at.ensures ∙ c.if-is_at.false) in
+    let there : is_some (only k.var (slice_get hits (place_of k.var hits)))
+    ≡ false = rw (c.as_slice-2.ensures, place) at (sym c.is_at.ensures ∙ c.if-is_at.false) in
     let new : c.insert.new.self ≡ add_kept k hits = rw (place, kept-insert k hits there) at c.in_ok-insert.ensures.ok in
     subst HitsRise (sym new) (kept-rise k hits c.requires)

@@ -12,7 +12,8 @@ returns-in-Some c =
     let lt : k < length hs = omega (arith, c.loop-left.invariant.0, c.requires, c.loop-left-test.true) in
     let next : k + 1 ≡ c.loop-left.left = omega (arith, c.loop-left-test.true) in
     sym (ap (regs_of (regs_after b (steps_of (take k hs)))) c.in-Some.is)
-    ∙ (sym (regs-more b hs k c.index.result.now lt c.index.ensures) ∙ (ap (λ (j : ℕ). regs_after b (steps_of (take j hs))) next ∙ c.loop-left.invariant.1))
+    ∙ (sym (regs-more b hs k c.index.result.now lt c.index.ensures)
+    ∙ (ap (λ (j : ℕ). regs_after b (steps_of (take j hs))) next ∙ c.loop-left.invariant.1))
 
 pub loop-left-preserved : goal.loop-left-preserved
 loop-left-preserved c =
@@ -24,5 +25,6 @@ loop-left-preserved c =
     let under : k ≤ c.args.n = omega (arith, c.loop-left.invariant.0) in (
       under,
       sym (ap (regs_of (regs_after b (steps_of (take k hs)))) c.in_default.is)
-          ∙ (sym (regs-more b hs k c.index.result.now lt c.index.ensures) ∙ (ap (λ (j : ℕ). regs_after b (steps_of (take j hs))) next ∙ c.loop-left.invariant.1)),
+          ∙ (sym (regs-more b hs k c.index.result.now lt c.index.ensures)
+          ∙ (ap (λ (j : ℕ). regs_after b (steps_of (take j hs))) next ∙ c.loop-left.invariant.1)),
     )

@@ -8,13 +8,16 @@ use Rattle.pm_saved.proofs.steps.cut_step.Goals as goal
 
 pub returns-in-Some-clause-step : goal.returns-in-Some-clause-step
 returns-in-Some-clause-step c = λ s e.
-    at_ended c.args.steps.now.items c.args.at.step c.args.at.sense c.in-Some.held.now c.cut_in.new.held c.in-Some.ensures.value c.cut_in.ensures.step s e
+    at_ended c.args.steps.now.items c.args.at.step c.args.at.sense c.in-Some.held.now c.cut_in.new.held
+    c.in-Some.ensures.value c.cut_in.ensures.step s e
 
 pub returns-in-Some-clause-rise : goal.returns-in-Some-clause-rise
 returns-in-Some-clause-rise c = λ m h.
     steps-set 0 c.args.steps.now.items m c.args.at.step c.in-Some.held.now c.cut_in.new.held h
-    (λ k f. c.cut_in.ensures.fits k (subst (Fits k) (sym c.in-Some.ensures.value) f)) (c.cut_in.ensures.next ∙ ap (λ (x : Held). x.next) c.in-Some.ensures.value)
+    (λ k f. c.cut_in.ensures.fits k (subst (Fits k) (sym c.in-Some.ensures.value) f)) (c.cut_in.ensures.next
+    ∙ ap (λ (x : Held). x.next) c.in-Some.ensures.value)
 
 pub returns-in_default-clause-step : goal.returns-in_default-clause-step
 returns-in_default-clause-step c = λ s e.
-    absurd (false≢true (c.in_default.ensures.variant.1 (omega (arith, at_within c.args.steps.now.items c.args.at.step c.args.at.sense s e, c.args.steps.now.ok.0))))
+    absurd (false≢true (c.in_default.ensures.variant.1 (omega
+    (arith, at_within c.args.steps.now.items c.args.at.step c.args.at.sense s e, c.args.steps.now.ok.0))))

@@ -4,4 +4,5 @@ use Rattle.pm_saved.specs.Steps.{hand_out}
 use Rattle.pm_saved.proofs.steps.ready_in.Given as goal
 
 abbrev pub invariant-loop-at : goal.invariant-loop-at
-invariant-loop-at l = l.at + length (hand_out l.line (steps_of (drop l.at l.steps.items))) ≡ length (hand_out l.line (steps_of l.steps.items))
+invariant-loop-at l = l.at + length (hand_out l.line (steps_of (drop l.at l.steps.items)))
+    ≡ length (hand_out l.line (steps_of l.steps.items))

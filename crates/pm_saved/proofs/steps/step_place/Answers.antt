@@ -11,4 +11,5 @@ returns-clause-place c =
     let q = c.args.seq in
     let parted = parted-is (λ h. nat_le h.next q) hs (steps-parted q 0 hs c.requires.0 c.requires.1) in
     passing-found (λ h. nat_le h.next q) hs c.partition_point.result (search rules)
-    (IsPartitionPoint-from_clause (λ h. nat_le h.next q) _ _ c.partition_point.ensures.partitioned parted (λ a r q k. search rules))
+    (IsPartitionPoint-from_clause (λ h. nat_le h.next q) _ _ c.partition_point.ensures.partitioned parted
+    (λ a r q k. search rules))

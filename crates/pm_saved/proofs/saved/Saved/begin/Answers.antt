@@ -5,4 +5,5 @@ use Rattle.pm_saved.proofs.saved.Saved.begin.Goals as goal
 pub returns-clause-ok : goal.returns-clause-ok
 returns-clause-ok c =
     let i = c.self.inside in
-    ap (λ z. record { base = i.base; steps = z; used = i.next }) c.in_ok-begin_last.ensures.ok ∙ ap (with_step (opened c.args.stamp)) c.self.view_is
+    ap (λ z. record { base = i.base; steps = z; used = i.next }) c.in_ok-begin_last.ensures.ok
+    ∙ ap (with_step (opened c.args.stamp)) c.self.view_is

@@ -10,4 +10,5 @@ pub returns : goal.returns
 returns c = λ s e.
     let i = c.self.inside in
     let there = ap (λ (k : Kept). step_at c.args.at.step c.args.at.sense k.steps) c.self.view_is ∙ e in
-    ap (λ z. record { base = i.base; steps = z; used = i.next }) (c.cut_at.ensures.step s there) ∙ ap (cut_to s) c.self.view_is
+    ap (λ z. record { base = i.base; steps = z; used = i.next }) (c.cut_at.ensures.step s there)
+    ∙ ap (cut_to s) c.self.view_is

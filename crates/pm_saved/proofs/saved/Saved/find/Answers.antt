@@ -7,7 +7,9 @@ pub find_in-requires : goal.find_in-requires
 find_in-requires c = (c.self.inside.next, c.self.invariant)
 
 pub returns-clause-place : goal.returns-clause-place
-returns-clause-place c = subst (λ (k : Kept). find c.args.num k.steps ≡ spot_of c.find_in.result k.steps) c.self.view_is c.find_in.ensures.place
+returns-clause-place c = subst (λ (k : Kept). find c.args.num k.steps
+    ≡ spot_of c.find_in.result k.steps) c.self.view_is c.find_in.ensures.place
 
 pub returns-clause-variant : goal.returns-clause-variant
-returns-clause-variant c = subst (λ (k : Kept). is_some (find c.args.num k.steps) ≡ is_some c.find_in.result) c.self.view_is c.find_in.ensures.variant
+returns-clause-variant c = subst (λ (k : Kept). is_some (find c.args.num k.steps)
+    ≡ is_some c.find_in.result) c.self.view_is c.find_in.ensures.variant

@@ -10,4 +10,5 @@ pub returns : goal.returns
 returns c = λ s e.
     let i = c.self.inside in
     let there = ap (λ (k : Kept). step_at c.args.at.step c.args.at.sense k.steps) c.self.view_is ∙ e in
-    ap (λ z. record { base = i.base; steps = z; used = i.next }) (c.finish_at.ensures.step s there) ∙ ap (with_sense s (record s.sense { complete = true })) c.self.view_is
+    ap (λ z. record { base = i.base; steps = z; used = i.next }) (c.finish_at.ensures.step s there)
+    ∙ ap (with_sense s (record s.sense { complete = true })) c.self.view_is

@@ -7,4 +7,5 @@ use Rattle.pm_saved.proofs.saved.Saved.give_out.Goals as goal
 pub invariant_of-self-2 : goal.invariant_of-self-2
 invariant_of-self-2 c =
     let i = c.self.inside in
-    subst (λ (z : List Held). NumbersRise 0 z i.next) (sym c.pop_front.ensures.rest) (steps-rest i.steps.items i.next c.self.invariant)
+    subst (λ (z : List Held). NumbersRise 0 z i.next) (sym c.pop_front.ensures.rest)
+    (steps-rest i.steps.items i.next c.self.invariant)

@@ -10,7 +10,9 @@ turn_of-requires c = subst HitsRise (sym c.as_slice.ensures) c.in-Some.ensures.r
 
 pub returns-in-Some : goal.returns-in-Some
 returns-in-Some c = λ s e.
-    c.turn_of.ensures ∙ (ap (kept_turn c.args.var) c.as_slice.ensures ∙ ap (λ (x : KeptSense). kept_turn c.args.var x.hits) (same_Some c.in-Some.sense.now s.sense (c.in-Some.ensures.there s e)))
+    c.turn_of.ensures ∙ (ap (kept_turn c.args.var) c.as_slice.ensures
+    ∙ ap (λ (x : KeptSense). kept_turn c.args.var x.hits)
+    (same_Some c.in-Some.sense.now s.sense (c.in-Some.ensures.there s e)))
 
 pub returns-in-None : goal.returns-in-None
 returns-in-None c = λ s e. absurd (none-some s.sense (c.in-None.ensures.there s e))

@@ -12,4 +12,5 @@ returns-clause-ok c =
     let i = c.self.inside in
     on_ok c.withdraw_from.result _ _ (λ sent s e.
     sent ∙ ap (λ (z : List KeptStep). c.args.out.now ++ withdrawn z)
-    (at_rest i.steps.items c.args.at.step c.args.at.sense s (ap (λ (k : Kept). step_at c.args.at.step c.args.at.sense k.steps) c.self.view_is ∙ e))) c.withdraw_from.ensures.ok
+    (at_rest i.steps.items c.args.at.step c.args.at.sense s (ap (λ
+    (k : Kept). step_at c.args.at.step c.args.at.sense k.steps) c.self.view_is ∙ e))) c.withdraw_from.ensures.ok
