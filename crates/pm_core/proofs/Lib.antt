@@ -1,2 +1,9 @@
 pub mod Loops
 pub mod LinkLaws
+pub mod Carries
+pub mod Posting
+pub mod Delivering
+pub mod Handing
+pub mod Ordering
+pub mod Committing
+pub mod FirstLaws

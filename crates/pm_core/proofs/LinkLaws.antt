@@ -27,7 +27,7 @@ use Rattle.pm_core.specs.Links.{AreAscending, IsBefore, LinksAre, homed_at, link
 edges_later : (i n d : ℕ) → (suc i ≤ d) × (d < suc i + n) → (i ≤ d) × (d < i + suc n)
 edges_later i n d h = (let a = h.0 in let b = h.1 in (omega arith, omega arith))
 
-edges_in : (ps : List (Option ℕ)) (c i n d : ℕ) → In d (edges ps c i n) → (i ≤ d) × (d < i + n)
+pub edges_in : (ps : List (Option ℕ)) (c i n d : ℕ) → In d (edges ps c i n) → (i ≤ d) × (d < i + n)
 edges_in ps c i zero d k = absurd k
 edges_in ps c i (suc n) d k = elim (cases_Bool (edge ps c i)) [
   | inl e ↦ elim (subst (λ z. In d (cond z (i ∷ edges ps c (suc i) n) (edges ps c (suc i) n))) e k) [
@@ -350,7 +350,7 @@ ascend_both (x ∷ xs) ys a b h = (
 )
 
 -- each number is below all later ones
-abbrev Rises : List ℕ → Type 0
+abbrev pub Rises : List ℕ → Type 0
 Rises [] = Unit {0}
 Rises (x ∷ xs) = AllByRecursion (λ y. x < y) xs × Rises xs
 
@@ -364,7 +364,7 @@ rises_both (x ∷ xs) ys a b h = (
   rises_both xs ys a.1 b (λ u v i j. h u v (inr i) j),
 )
 
-edges_rise : (ps : List (Option ℕ)) (c i n : ℕ) → Rises (edges ps c i n)
+pub edges_rise : (ps : List (Option ℕ)) (c i n : ℕ) → Rises (edges ps c i n)
 edges_rise ps c i zero = tt
 edges_rise ps c i (suc n) =
     let again = edges_rise ps c (suc i) n in

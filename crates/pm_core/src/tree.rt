@@ -4,7 +4,7 @@ ghost use Rattle.std.specs.Prelude.{◌≡◌, ◌<◌, ◌++◌, ◌∷◌, [],
 ghost use Rattle.pm_plan.specs.Limits.{IsWithinLimits};
 ghost use Rattle.pm_plan.specs.Plans.{IsValid, parents};
 ghost use Rattle.pm_plan.specs.Trees.{edge, is_this, parent};
-ghost use Rattle.pm_sim.specs.Worlds.{ports, to_agents, towards};
+ghost use Rattle.pm_sim.specs.Worlds.{home, ports, to_agents, towards};
 
 use pm_base::{List, Memory};
 use pm_plan::Plan;
@@ -78,4 +78,14 @@ pub fn to_agents(alloc: Global, plan: &Plan, clp: u32) -> Result<List<u32>, Memo
         found.push(towards(plan, clp, agent as u32, row.home))?;
     }
     Ok(found)
+}
+
+/// The home of an agent.
+pub fn home(plan: &Plan, agent: u32) -> u32
+    ensures { result ≡ home plan.now agent }
+{
+    match plan.agents.get(agent as usize) {
+        Some(row) => row.home,
+        None => 0,
+    }
 }
