@@ -5,13 +5,14 @@ ghost use Rattle.pm_base.specs.Layouts.{IsLayout};
 ghost use Rattle.pm_base.specs.declared.program.RegRow.{RegRow as TheRegister};
 ghost use Rattle.pm_alp.specs.Agents.{agent_committed, wake_of};
 ghost use Rattle.pm_alp.specs.States.{fixed_of};
+ghost use Rattle.pm_alp.specs.declared.agent.Awaited.{Awaited as TheAwaited};
 ghost use Rattle.pm_alp.specs.Views.{delivered, first_process, gave_out, is_awaited, sent_by, with_agent};
 ghost use Rattle.pm_saved.specs.Steps.{HasGrown, first_ready, hand_out};
 
 use crate::parts::AlpParts;
 use crate::state::{State, wake_at, wake_message};
 use crate::takes::take;
-use pm_base::{Entry, Line, List, Memory, Num, RegRow};
+use pm_base::{Entry, Line, List, Memory, Num, RegRow, Stamp};
 use pm_message::Message;
 use pm_saved::Saved;
 use std::alloc::Global;
@@ -140,6 +141,17 @@ impl<'a> Alp<'a> {
         match self.state.awaited {
             Some(wake) => num == wake.num,
             None => false,
+        }
+    }
+
+    /// The moment of the Wake that the agent awaits: none while it is in a step, and once it has retired. It takes no
+    /// memory.
+    pub fn next(&self) -> Option<Stamp>
+        ensures { result ≡ option_map (λ (w : TheAwaited). w.stamp) self.now.agent.awaited }
+    {
+        match self.state.awaited {
+            Some(wake) => Some(wake.stamp),
+            None => None,
         }
     }
 
