@@ -1,9 +1,10 @@
-pub mod Loops
-pub mod LinkLaws
 pub mod Carries
-pub mod Posting
-pub mod Delivering
-pub mod Handing
-pub mod Ordering
 pub mod Committing
+pub mod Delivering
 pub mod FirstLaws
+pub mod Handing
+pub mod LinkLaws
+pub mod Loops
+pub mod Ordering
+pub mod Picking
+pub mod Posting
