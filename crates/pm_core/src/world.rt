@@ -6,6 +6,7 @@ ghost use Rattle.pm_plan.specs.Plans.{IsValid};
 ghost use Rattle.pm_sim.specs.Worlds.{handed, least_line, may_commit};
 ghost use Rattle.pm_trace.specs.Merges.{StandsOnce};
 
+mod ahead;
 mod picks;
 
 use crate::commits::{commit_alps, commit_clps, count_ready};
