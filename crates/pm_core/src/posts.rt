@@ -12,11 +12,18 @@ use pm_plan::Plan;
 use pm_queries::Sent;
 use std::alloc::Global;
 
-/// Posts what a communication process sends, in order.
-pub fn post_sent(alloc: Global, mail: &mut Mail, from: u32, sent: List<Sent>) -> Result<(), Memory>
+/// Posts what a communication process sends, in order, and notes to whom.
+pub fn post_sent(
+    alloc: Global,
+    mail: &mut Mail,
+    receivers: &mut Vec<u32>,
+    from: u32,
+    sent: List<Sent>,
+) -> Result<(), Memory>
     ensures { OnOk result (mail.new ≡ posted_all from sent mail.old) }
 {
     for one in sent.into_vec() {
+        receivers.push(one.to)?;
         mail.post(alloc, one.to, from, one.message)?;
     }
     Ok(())
@@ -32,10 +39,11 @@ fn receiver(own: u32, home: u32, message: &Message) -> u32
     }
 }
 
-/// Posts what an agent sends, in order: a Wake to its own process, each other message to its home.
+/// Posts what an agent sends, in order, and notes to whom: a Wake to its own process, each other message to its home.
 pub fn post_told(
     alloc: Global,
     mail: &mut Mail,
+    receivers: &mut Vec<u32>,
     own: u32,
     home: u32,
     told: List<Message>,
@@ -44,6 +52,7 @@ pub fn post_told(
 {
     for message in told.into_vec() {
         let to = receiver(own, home, &message);
+        receivers.push(to)?;
         mail.post(alloc, to, own, message)?;
     }
     Ok(())

@@ -30,6 +30,7 @@ impl<'a> Processes<'a> {
         &mut self,
         alloc: Global,
         mail: &mut Mail,
+        receivers: &mut Vec<u32>,
         to: u32,
         from: u32,
         message: Message,
@@ -42,7 +43,7 @@ impl<'a> Processes<'a> {
         let mut sent = List::new(alloc);
         let clp = &mut self.clps[to as usize];
         clp.deliver(alloc, from, message, &mut sent)?;
-        post_sent(alloc, mail, to, sent)
+        post_sent(alloc, mail, receivers, to, sent)
     }
 
     // An agent's process takes a message.
@@ -50,6 +51,7 @@ impl<'a> Processes<'a> {
         &mut self,
         alloc: Global,
         mail: &mut Mail,
+        receivers: &mut Vec<u32>,
         agent: u32,
         message: Message,
     ) -> Result<(), Memory>
@@ -64,7 +66,7 @@ impl<'a> Processes<'a> {
         let mut told = List::new(alloc);
         let alp = &mut self.alps[agent as usize];
         alp.deliver(alloc, message, &mut told)?;
-        post_told(alloc, mail, own, home, told)
+        post_told(alloc, mail, receivers, own, home, told)
     }
 
     /// The message's receiver takes it, and what this sends goes to the ends of its links.
@@ -72,6 +74,7 @@ impl<'a> Processes<'a> {
         &mut self,
         alloc: Global,
         mail: &mut Mail,
+        receivers: &mut Vec<u32>,
         to: u32,
         from: u32,
         message: Message,
@@ -82,9 +85,9 @@ impl<'a> Processes<'a> {
     {
         let clps = self.clps.len() as u32;
         if to < clps {
-            self.at_clp(alloc, mail, to, from, message)
+            self.at_clp(alloc, mail, receivers, to, from, message)
         } else {
-            self.at_alp(alloc, mail, to - clps, message)
+            self.at_alp(alloc, mail, receivers, to - clps, message)
         }
     }
 }

@@ -26,6 +26,8 @@ use std::marker::Model;
 pub struct World<'a> {
     processes: Processes<'a>,
     mail: Mail,
+    // To whom the last delivery sent.
+    receivers: Vec<u32>,
     line: Line,
     made: u64,
     spoilt: bool,
@@ -77,6 +79,7 @@ impl<'a> World<'a> {
         Ok(World {
             processes: Processes { plan, clps, alps },
             mail,
+            receivers: Vec::new(alloc),
             line: Line::At(Stamp { time: 0, agent: 0 }),
             made: 0,
             spoilt: false,
@@ -109,11 +112,17 @@ impl<'a> World<'a> {
             return Ok(false);
         };
         self.spoilt = true;
+        self.receivers.clear();
         self.processes
-            .arrive(alloc, &mut self.mail, to, from, message)?;
+            .arrive(alloc, &mut self.mail, &mut self.receivers, to, from, message)?;
         self.spoilt = false;
         self.made += 1;
         Ok(true)
+    }
+
+    /// To which processes the last delivery sent: whoever keeps it in mind need not look at the others. It takes no memory.
+    pub fn receivers(&self) -> &[u32] {
+        self.receivers.as_slice()
     }
 
     /// How many deliveries were made: the sum of those at all processes. It takes no memory.
