@@ -1,0 +1,10 @@
+pub mod Counting
+pub mod Going
+pub mod Growing
+pub mod Journaling
+pub mod Leading
+pub mod Lists
+pub mod Running
+pub mod Staging
+pub mod Starting
+pub mod Written
