@@ -1,17 +1,20 @@
 -- What a world delivers next to a process.
-use Rattle.std.proofs.Common.{ℕ, ◌+◌, ◌-◌, ◌<◌, ◌≤◌, ◌≡◌, ◌∙◌, Bool, true, false, cond, List, [], ◌∷◌, Option, Some, None, ap, sym, subst, refl, inl, inr, arith}
-use Rattle.std.specs.Prelude.{nat_lt}
+use Rattle.std.proofs.Common.{ℕ, ◌+◌, ◌-◌, ◌<◌, ◌≤◌, ◌≡◌, ◌⊎◌, ◌∙◌, Bool, true, false, cond, List, [], ◌∷◌, Option, Some, None, ap, sym, subst, refl, inl, inr, arith}
+use Rattle.std.specs.Prelude.{nat_lt, option_map, ◌||◌}
 use Rattle.std.proofs.lemmas.Bool.{cases_Bool}
 use Rattle.std.proofs.lemmas.Bool.Decides.{nat_tests}
+use Rattle.pm_base.proofs.Orders.{stamp_lt-never_itself}
+use Rattle.pm_base.specs.Stamps.{stamp_lt}
 use Rattle.pm_base.specs.declared.stamp.Line.{Line}
 use Rattle.pm_base.specs.declared.stamp.Num.{Num}
 use Rattle.pm_base.specs.declared.stamp.Stamp.{Stamp}
+use Rattle.pm_message.specs.Messages.{stamp_of}
 use Rattle.pm_message.specs.declared.Message.{Message}
 use Rattle.pm_message.specs.declared.Message.TheVariants as message
 use Rattle.pm_plan.specs.Plans.{IsValid}
 use Rattle.pm_plan.specs.declared.plan.Plan.{Plan}
 use Rattle.pm_alp.specs.declared.agent.Awaited.{Awaited}
-use Rattle.pm_mail.specs.Links.{IsIdle, first_of, waiting}
+use Rattle.pm_mail.specs.Links.{IsIdle, first_moment, first_of, is_before, is_before_at, waiting}
 use Rattle.pm_mail.specs.Links as lane
 use Rattle.pm_mail.specs.Links.{Link as Lane}
 use Rattle.pm_sim.specs.Bounds.{between}
@@ -29,7 +32,7 @@ use Rattle.pm_sim.proofs.Readies.{wake_own}
 use Rattle.pm_sim.proofs.Takings.{LinkOk, Suits}
 use Rattle.pm_sim.proofs.Wires.{between_mail, same_link}
 use Rattle.pm_core.specs.Mails.{link_of, links_of}
-use Rattle.pm_core.specs.Picks.{IsFree, IsHeld}
+use Rattle.pm_core.specs.Picks.{IsFree, IsHeld, IsLeast}
 use Rattle.pm_core.specs.Views.{WorldView}
 use Rattle.pm_core.proofs.Carries as carries
 
@@ -88,9 +91,21 @@ between_number p t x (l ∷ ls) m rest e = elim (cases_Bool (is_link (process p 
       (subst (λ z. cond z l.messages (between (process p t) x (links_of p ls)) ≡ m ∷ rest) g e)
 ]
 
+left_false : (a b : Bool) → (a || b) ≡ false → a ≡ false
+left_false true b e = absurd (cc)
+left_false false b e = refl
+
+-- a message that doesn't come before another hasn't a lesser stamp
+no_lesser : (to g f : ℕ) (ls : List Lane) (y m : Message) → first_of (waiting to g ls) ≡ Some y
+    → first_of (waiting to f ls) ≡ Some m → is_before to g f ls ≡ false → stamp_lt (stamp_of y) (stamp_of m) ≡ false
+no_lesser to g f ls y m eg ef e = left_false (stamp_lt (stamp_of y) (stamp_of m)) _
+    (sym (ap (λ z. is_before_at (option_map stamp_of z) g (first_moment to f ls) f) eg
+    ∙ ap (λ z. is_before_at (Some (stamp_of y)) g (option_map stamp_of z) f) ef) ∙ e)
+
 -- ---- what contracts see
 
-module _ (v : WorldView) (ls : List Lane) (same : v.world.links ≡ links_of v.plan ls) (window : Option Line) (to : ℕ) where
+module _ (v : WorldView) (ls : List Lane) (same : v.world.links ≡ links_of v.plan ls)
+    (window : Option Line) (to : ℕ) where
   abbrev p : Plan
   p = v.plan
 
@@ -115,9 +130,16 @@ module _ (v : WorldView) (ls : List Lane) (same : v.world.links ≡ links_of v.p
         free = subst (λ z. held_back v.world (λ _. window) (process p to) z ≡ false) (sym g) free;
       })
 
+  first_is : (g : ℕ) (b : IsFree v window to g) → first_of (waiting to g ls) ≡ Some b.message
+  first_is g b = ap first_of (sym (on_lane g) ∙ b.first)
+
+  pub is_least : (from : ℕ) → ((g : ℕ) → is_before to g from ls ≡ false) → IsLeast v window to from
+  is_least from h = λ a g b. no_lesser to g from ls b.message a.message (first_is g b) (first_is from a) (h g)
+
   pub nothing_waits : IsIdle to ls → IsHeld v window to
   nothing_waits idle = λ x m rest e. absurd (let r = sender x m rest e in
-      let g : m ∷ rest ≡ [] = sym e ∙ (ap (λ z. between (process p to) z v.world.links) r.1 ∙ (on_lane r.0 ∙ idle r.0)) in
+      let g : m ∷ rest ≡ [] = sym e
+      ∙ (ap (λ z. between (process p to) z v.world.links) r.1 ∙ (on_lane r.0 ∙ idle r.0)) in
       cc)
 
   module _ (n : ℕ) (valid : IsValid p) (reached : Reached p n v.world)
@@ -171,34 +193,60 @@ module _ (v : WorldView) (ls : List Lane) (same : v.world.links ≡ links_of v.p
         by (x ∷ rest) e g h =
             let same' : x ≡ y = cc in
             let o = own (process p (home p agent)) x rest (on_lane (home p agent) ∙ e)
-                (subst (λ z. held_back v.world (λ _. window) (process p to) z ≡ true) (sym same') h) in
+            (subst (λ z. held_back v.world (λ _. window) (process p to) z ≡ true) (sym same') h) in
             let c : AtClp (home p agent) ≡ AtAgent agent = sym (process_clp p (home p agent) home_low) ∙ o in
             cc
 
-    pub all_held : first_of (waiting to (home p agent) ls) ≡ None → IsHeld v window to
-    all_held none = λ x y rest e. by x y rest e (letter x y rest e).0
+    -- the message that was looked at first is the agent's own
+    from_self : process p from ≡ AtAgent agent
+    from_self = look (waiting to from ls) refl first
       where
-        -- the message that was looked at first is the agent's own
-        from_self : process p from ≡ AtAgent agent
-        from_self = look (waiting to from ls) refl first
-          where
-            look : (ms : List Message) → waiting to from ls ≡ ms → first_of ms ≡ Some m → process p from ≡ AtAgent agent
-            look [] e g = absurd (cc)
-            look (x ∷ rest) e g =
-                let same' : x ≡ m = cc in
-                own (process p from) x rest (on_lane from ∙ e)
-                (subst (λ z. held_back v.world (λ _. window) (process p to) z ≡ true) (sym same') held)
+        look : (ms : List Message) → waiting to from ls ≡ ms → first_of ms ≡ Some m → process p from ≡ AtAgent agent
+        look [] e g = absurd (cc)
+        look (x ∷ rest) e g =
+            let same' : x ≡ m = cc in
+            own (process p from) x rest (on_lane from ∙ e)
+            (subst (λ z. held_back v.world (λ _. window) (process p to) z ≡ true) (sym same') held)
 
+    -- what the agent has sent itself is held back
+    self_held : (x : Process) (y : Message) (rest : List Message) → between (process p to) x v.world.links ≡ y ∷ rest
+        → x ≡ AtAgent agent → held_back v.world (λ _. window) (process p to) y ≡ true
+    self_held x y rest e is =
+        let g : waiting to from ls ≡ y ∷ rest = sym (on_lane from)
+        ∙ (ap (λ z. between (process p to) z v.world.links) (from_self ∙ sym is) ∙ e) in
+        let h : Some m ≡ Some y = sym first ∙ ap first_of g in
+        let same' : m ≡ y = cc in
+        subst (λ z. held_back v.world (λ _. window) (process p to) z ≡ true) same' held
+
+    -- all else comes from its home
+    from_home : (x : Process) → LinkOk p (AtAgent agent) x → (x ≡ process p (home p agent)) ⊎ (x ≡ AtAgent agent)
+    from_home (AtClp c) l = inl (ap AtClp (sym l) ∙ sym (process_clp p (home p agent) home_low))
+    from_home (AtAgent b) l = inr (ap AtAgent (sym l))
+
+    pub home_least : IsLeast v window to (home p agent)
+    home_least = λ a g b. by a g b (from_home (process p g) (letter (process p g) b.message b.rest b.first).0)
+      where
+        by : (a : IsFree v window to (home p agent)) (g : ℕ) (b : IsFree v window to g)
+            → (process p g ≡ process p (home p agent)) ⊎ (process p g ≡ AtAgent agent)
+            → stamp_lt (stamp_of b.message) (stamp_of a.message) ≡ false
+        by a g b (inl e) =
+            let f : b.message ∷ b.rest ≡ a.message ∷ a.rest =
+            sym b.first ∙ (ap (λ z. between (process p to) z v.world.links) e ∙ a.first) in
+            let same' : Some b.message ≡ Some a.message = ap first_of f in
+            let is : b.message ≡ a.message = cc in
+            subst (λ z. stamp_lt (stamp_of b.message) (stamp_of z) ≡ false) is
+            (stamp_lt-never_itself (stamp_of b.message))
+        by a g b (inr e) = absurd (
+            let h = self_held (process p g) b.message b.rest b.first e in let k = b.free in cc)
+
+    pub all_held : first_of (waiting to (home p agent) ls) ≡ None → IsHeld v window to
+    all_held none = λ x y rest e. by x y rest e (from_home x (letter x y rest e).0)
+      where
         by : (x : Process) (y : Message) (rest : List Message) → between (process p to) x v.world.links ≡ y ∷ rest
-            → LinkOk p (AtAgent agent) x → held_back v.world (λ _. window) (process p to) y ≡ true
-        by (AtClp c) y rest e l = absurd (
-            let to_home : process p (home p agent) ≡ AtClp c = process_clp p (home p agent) home_low ∙ ap AtClp l in
+            → (x ≡ process p (home p agent)) ⊎ (x ≡ AtAgent agent)
+            → held_back v.world (λ _. window) (process p to) y ≡ true
+        by x y rest e (inl is) = absurd (
             let g : waiting to (home p agent) ls ≡ y ∷ rest =
-                sym (on_lane (home p agent)) ∙ (ap (λ z. between (process p to) z v.world.links) to_home ∙ e) in
+            sym (on_lane (home p agent)) ∙ (ap (λ z. between (process p to) z v.world.links) (sym is) ∙ e) in
             let h : Some y ≡ None = sym (ap first_of g) ∙ none in cc)
-        by (AtAgent b) y rest e l =
-            let g : waiting to from ls ≡ y ∷ rest = sym (on_lane from)
-                ∙ (ap (λ z. between (process p to) z v.world.links) (from_self ∙ ap AtAgent l) ∙ e) in
-            let h : Some m ≡ Some y = sym first ∙ ap first_of g in
-            let same' : m ≡ y = cc in
-            subst (λ z. held_back v.world (λ _. window) (process p to) z ≡ true) same' held
+        by x y rest e (inr is) = self_held x y rest e is

@@ -1,6 +1,6 @@
 //! What a world delivers next to a process while a window holds awaited Wakes back.
 ghost use Rattle.std.specs.Prelude.{◌≡◌, ◌+◌, ◌-◌, false, length, Some, None, IfSome};
-ghost use Rattle.pm_core.specs.Picks.{IsFree, IsHeld};
+ghost use Rattle.pm_core.specs.Picks.{IsFree, IsHeld, IsLeast};
 ghost use Rattle.pm_sim.specs.Ready.{held_back, kept_back};
 ghost use Rattle.pm_sim.specs.Worlds.{clps_of, home, process};
 
@@ -56,6 +56,7 @@ impl<'a> World<'a> {
     pub fn pick(&self, to: u32, window: Option<Line>) -> Option<u32>
         requires { self.now.spoilt ≡ false }
         ensures some { IfSome result (IsFree self.now window to) }
+        ensures least { IfSome result (IsLeast self.now window to) }
         ensures none { result ≡ None → IsHeld self.now window to }
     {
         let Some(from) = self.mail.next(to) else {
