@@ -1,10 +1,13 @@
 -- Which endings come of an input, where the devices do not fail.
 use Rattle.std.proofs.Common.{◌≡◌, ◌≢◌, ◌⊎◌, inl, inr, ℕ, ◌≤◌, List, length, Option, Some, None, IfSome, Result, Ok, Err, refl, sym, ap, ◌∙◌, arith}
 use Rattle.pm_plan.specs.declared.plan.Plan.{Plan}
-use Rattle.pm_top.specs.Headline.{IsAccepted, IsRefused, IsTooLong, IsWithin, PrintsSpent}
+use Rattle.pm_base.specs.declared.run.Event.{Event}
+use Rattle.pm_top.specs.Headline.{IsAccepted, IsEnough, IsRefused, IsTooLong, IsWithin}
+use Rattle.pm_top.specs.Printed.{PrintedIn, PrintedOf}
 use Rattle.pm_scenario.specs.declared.fault.ScenarioFault.{ScenarioFault}
-use Rattle.pm_top.specs.Outputs.{steps}
 use Rattle.pm_words.specs.declared.settings.Mode.{Mode}
+use Rattle.pm_words.specs.declared.settings.Mode.TheVariants as mode
+use Rattle.pm_words.specs.declared.settings.Settings.{Settings}
 use Rattle.pm_top.specs.declared.outcome.Ending.{Ending}
 use Rattle.pm_top.specs.declared.outcome.Ending.TheVariants as ending
 
@@ -65,26 +68,30 @@ completes ending.ReadFault (Some b) t read write = absurd (read refl)
 completes ending.WriteFault (Some b) t read write = absurd (write refl)
 completes ending.Memory (Some b) t read write = λ a. inr (inr refl)
 
-same-plan : (p q : Plan) → Path (Result Plan ScenarioFault) (Ok p) (Ok q) → p ≡ q
-same-plan p q e = cc
-
 -- a budget that is enough isn't spent
-spent-not : (m : Mode) (budget : ℕ) (b : List ℕ) (old new : Option (List ℕ)) → PrintsSpent m budget (Some b) old new → IsWithin m budget b → ⊥
-spent-not m budget b old new s w =
-    let same : s.0 ≡ w.scenario.plan = same-plan s.0 w.scenario.plan (sym s.1 ∙ w.scenario.is) in
-    omega (arith, s.2, w.few, ap (λ (p : Plan). steps m p) same)
+spent-in : (m : Mode) (s : Settings) (p : Plan) (j : List Event) (old new : Option (List ℕ)) → m ≢ mode.Check → PrintedIn m s p ending.BudgetSpent j old new
+    → IsEnough m s.run.budget p → ⊥
+spent-in mode.Seq s p j old new unchecked a enough = omega (arith, a.more refl, enough)
+spent-in mode.Check s p j old new unchecked a enough = unchecked refl
+spent-in mode.Run s p j old new unchecked a enough = enough
+
+spent-not : (e : Ending) (s : Settings) (b : List ℕ) (j : List Event) (old new : Option (List ℕ)) → (e ≡ ending.BudgetSpent → s.mode ≢ mode.Check)
+    → PrintedOf s (Some b) e j old new → IsWithin s.mode s.run.budget b → e ≡ ending.BudgetSpent → ⊥
+spent-not e s b j old new unchecked a w h =
+    let printed : PrintedIn s.mode s w.scenario.plan e j old new = rw w.scenario.is at a in
+    spent-in s.mode s w.scenario.plan j old new (unchecked h) (rw h at printed) w.enough
 
 or-done : (e : Ending) → (e ≡ ending.BudgetSpent → ⊥) → (e ≡ ending.Done) ⊎ ((e ≡ ending.BudgetSpent) ⊎ (e ≡ ending.Memory)) → (e ≡ ending.Done) ⊎ (e ≡ ending.Memory)
 or-done e spent (inl h) = inl h
 or-done e spent (inr (inl h)) = absurd (spent h)
 or-done e spent (inr (inr h)) = inr h
 
-pub within : (e : Ending) (m : Mode) (budget : ℕ) (held old new : Option (List ℕ)) → Told e held → e ≢ ending.ReadFault → e ≢ ending.WriteFault
-    → (e ≡ ending.BudgetSpent → PrintsSpent m budget held old new)
-    → IfSome held (λ b. IsWithin m budget b → (e ≡ ending.Done) ⊎ (e ≡ ending.Memory))
-within e m budget None old new t read write spent = tt
-within e m budget (Some b) old new t read write spent =
-    λ w. or-done e (λ h. spent-not m budget b old new (spent h) w) (completes e (Some b) t read write w.scenario)
+pub within : (e : Ending) (s : Settings) (held : Option (List ℕ)) (j : List Event) (old new : Option (List ℕ)) → Told e held → e ≢ ending.ReadFault
+    → e ≢ ending.WriteFault → (e ≡ ending.BudgetSpent → s.mode ≢ mode.Check) → PrintedOf s held e j old new
+    → IfSome held (λ b. IsWithin s.mode s.run.budget b → (e ≡ ending.Done) ⊎ (e ≡ ending.Memory))
+within e s None j old new t read write unchecked a = tt
+within e s (Some b) j old new t read write unchecked a =
+    λ w. or-done e (spent-not e s b j old new unchecked a w) (completes e (Some b) t read write w.scenario)
 
 -- words that are not understood are no scenario's
 pub words-not : Accepts ending.Words → ⊥

@@ -1,12 +1,15 @@
 -- A call that ends at its words.
-use Rattle.std.proofs.Common.{inl, inr, ℕ, List, Option, Some, None, IfSome, refl}
-use Rattle.pm_top.specs.Headline.{Call, IsComplete, IsPrinted, IsServed, IsTold, SourceSight}
+use Rattle.std.proofs.Common.{◌≡◌, ◌≢◌, inl, inr, ℕ, List, [], Option, Some, None, IfSome, refl}
+use Rattle.pm_base.specs.declared.run.Event.{Event}
+use Rattle.pm_top.specs.Headline.{Call, IsComplete, IsServed, IsTold, SourceSight}
+use Rattle.pm_top.specs.Printed.{PrintedOf}
 use Rattle.pm_top.specs.Speech.{SinkSight}
 use Rattle.pm_top.specs.declared.outcome.Ending.{Ending}
 use Rattle.pm_top.specs.declared.outcome.Ending.TheVariants as ending
 use Rattle.pm_words.specs.declared.settings.Settings.{Settings}
 use Rattle.pm_top.proofs.Complete.{Accepts, words-not}
-use Rattle.pm_top.proofs.Prints.{prints-none, prints-short}
+use Rattle.pm_top.proofs.Prints.{printed-none, quits-memory}
+use Rattle.pm_words.specs.declared.settings.Mode.TheVariants as mode
 
 memory-not : Accepts ending.Memory → ⊥
 memory-not (inl h) = cc h
@@ -23,6 +26,7 @@ abbrev pub stopped : Option Settings → Ending → SourceSight → SinkSight �
 stopped s e i o before after = record {
   settings = s;
   ending = e;
+  journal = [];
   input = i;
   input_after = i;
   out = o;
@@ -31,15 +35,21 @@ stopped s e i o before after = record {
   err_after = after;
 }
 
+each : (P : Settings → Type 0) (s : Option Settings) → ((t : Settings) → P t) → IfSome s P
+each P None h = tt
+each P (Some t) h = h t
+
 module _ (i : SourceSight) (o before after : SinkSight) where
   pub words-served : IsTold (stopped None ending.Words i o before after) → IsServed (stopped None ending.Words i o before after)
   words-served told = record {
     printed = tt;
+    journal = record { runs = tt; nothing = λ _. refl; unfit = kept i.held (λ b unfit. refl) };
     caused = record {
       words = λ h. refl;
-      no_words = λ h. record { ended = inl refl; input = refl; out = refl };
+      no_words = λ h. record { ended = inl refl; input = refl; out = refl; journal = refl };
       refused = λ f h. absurd (cc h);
       too_long = λ h. absurd (cc h);
+      budget = λ h. absurd (cc h);
       accepted = λ h. absurd (words-not h);
       read = λ h. absurd h;
       read_fault = λ h. absurd (cc h);
@@ -47,16 +57,6 @@ module _ (i : SourceSight) (o before after : SinkSight) where
     };
     told = told;
     complete = tt;
-  }
-
-  some-printed : (s : Option Settings) (t : Settings) → IsPrinted (stopped s ending.Memory i o before after) t
-  some-printed s t = record {
-    done = λ h. absurd (cc h);
-    spent = λ h. absurd (cc h);
-    part = prints-none t.mode i.held o.holds;
-    unfinished = λ h. prints-short t.mode i.held o.holds;
-    lacks = λ h. absurd (cc h);
-    sequential = λ h. absurd (cc h);
   }
 
   some-complete : (s : Option Settings) (t : Settings) → IsComplete (stopped s ending.Memory i o before after) t
@@ -67,18 +67,16 @@ module _ (i : SourceSight) (o before after : SinkSight) where
     within = λ good well. kept i.held (λ b a. inr refl);
   }
 
-  each : (P : Settings → Type 0) (s : Option Settings) → ((t : Settings) → P t) → IfSome s P
-  each P None h = tt
-  each P (Some t) h = h t
-
   pub memory-served : (s : Option Settings) → IsTold (stopped s ending.Memory i o before after) → IsServed (stopped s ending.Memory i o before after)
   memory-served s told = record {
-    printed = each (IsPrinted (stopped s ending.Memory i o before after)) s (some-printed s);
+    printed = each (λ t. PrintedOf t i.held ending.Memory [] o.holds o.holds) s (λ t. printed-none t i.held ending.Memory o.holds quits-memory);
+    journal = record { runs = each (λ t. t.mode ≢ mode.Run → Path (List Event) [] []) s (λ t h. refl); nothing = λ _. refl; unfit = kept i.held (λ b unfit. refl) };
     caused = record {
       words = λ h. absurd (cc h);
-      no_words = λ h. record { ended = inr refl; input = refl; out = refl };
+      no_words = λ h. record { ended = inr refl; input = refl; out = refl; journal = refl };
       refused = λ f h. absurd (cc h);
       too_long = λ h. absurd (cc h);
+      budget = λ h. absurd (cc h);
       accepted = λ h. absurd (memory-not h);
       read = λ h. absurd h;
       read_fault = λ h. absurd (cc h);

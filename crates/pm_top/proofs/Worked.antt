@@ -4,24 +4,24 @@ use Rattle.std.specs.Fmt.{digits}
 use Rattle.std.specs.Prelude.{codes}
 use Rattle.pm_model.proofs.ExampleLaws.{counter-run}
 use Rattle.pm_model.specs.Examples.{counter, tie_write_first}
+use Rattle.pm_model.specs.Runs.{sequential_run}
 use Rattle.pm_model.specs.Traces.{trace_text}
 use Rattle.pm_plan.specs.declared.fault.PlanFault.TheVariants as plan
 use Rattle.pm_plan.specs.declared.plan.Kind.TheVariants as kind
 use Rattle.pm_rules.specs.declared.fault.RuleFault.TheVariants as rule
 use Rattle.pm_scenario.specs.declared.fault.ScenarioFault.TheVariants as fault
-use Rattle.pm_top.specs.Outputs.{first_lines, output, steps}
+use Rattle.pm_top.specs.Outputs.{check_line, first_lines}
 use Rattle.pm_top.specs.Refusals.{refusal}
-use Rattle.pm_words.specs.declared.settings.Mode.TheVariants as mode
 
-pub counter-parts : output mode.Check counter ≡ codes "ok clps 1 classes 1 vars 1 agents 1\n"
+pub counter-parts : check_line counter ≡ codes "ok clps 1 classes 1 vars 1 agents 1\n"
 unfolding digits
 counter-parts = refl
 
-pub pair-parts : output mode.Check tie_write_first ≡ codes "ok clps 1 classes 1 vars 1 agents 2\n"
+pub pair-parts : check_line tie_write_first ≡ codes "ok clps 1 classes 1 vars 1 agents 2\n"
 unfolding digits
 pair-parts = refl
 
-pub counter-steps : steps mode.Seq counter ≡ 3
+pub counter-steps : length (sequential_run counter) ≡ 3
 counter-steps = ap length counter-run
 
 pub counter-first : first_lines 2 counter ≡ codes "0 ant [c0=0,0] c0:=1,0\n1 ant [c0=1,0] c0:=2,0\n"

@@ -1,17 +1,19 @@
 -- What a run has written so far.
-use Rattle.std.proofs.Common.{◌≡◌, ℕ, zero, suc, ◌+◌, ◌<◌, List, [], ◌∷◌, ◌++◌, length, length-append, take, codes, decimal, Option, refl, sym, ap, ◌∙◌, append_assoc, append-nil, arith}
+use Rattle.std.proofs.Common.{◌≡◌, Bool, ℕ, zero, suc, ◌+◌, ◌<◌, List, [], ◌∷◌, ◌++◌, length, length-append, take, codes, decimal, Option, refl, sym, ap, ◌∙◌, append_assoc, append-nil, arith}
 use Rattle.std.proofs.lemmas.Grind.{flat_map-append}
 use Rattle.std.proofs.lemmas.List.{take_at, take-append-le}
 use Rattle.std.specs.Io.KnownBytes.{Appends}
 use Rattle.pm_base.specs.declared.rows.Entry.{Entry}
+use Rattle.pm_base.specs.declared.run.Event.{Event}
+use Rattle.pm_base.specs.declared.run.Event.TheVariants as event
+use Rattle.pm_base.specs.declared.stamp.Line.TheVariants as at
+use Rattle.pm_history.specs.Journals.{event_line, pair_text}
 use Rattle.pm_plan.specs.declared.plan.Plan.{Plan}
 use Rattle.pm_model.specs.Runs.{sequential_run}
 use Rattle.pm_model.specs.Traces.{line, trace_text, end_line, trace}
 use Rattle.pm_io.specs.Causes.{AppendsPart, AppendsPrefix}
 use Rattle.pm_io.proofs.Known.{appends-append, appends-none, prefix-part, prefix-none, prefix-after}
-use Rattle.pm_top.specs.Outputs.{check_line, output}
-use Rattle.pm_words.specs.declared.settings.Mode.{Mode}
-use Rattle.pm_words.specs.declared.settings.Mode.TheVariants as mode
+use Rattle.pm_top.specs.Outputs.{asked_lines, check_line, run_output}
 
 more-some : (xs ys : List ℕ) → 0 < length xs → 0 < length (xs ++ ys)
 more-some xs ys some = omega (arith, some, length-append xs ys)
@@ -27,10 +29,25 @@ check-some p =
     let eight : length (codes "ok clps ") ≡ 8 = refl in
     more-some (codes "ok clps " ++ decimal (length p.clps)) _ (more-some (codes "ok clps ") (decimal (length p.clps)) (omega (arith, eight)))
 
--- no output is empty
-pub output-some : (m : Mode) (p : Plan) → 0 < length (output m p)
-output-some mode.Seq p = omega (arith, end-some (length (sequential_run p)), length-append (trace_text p (sequential_run p)) (end_line (length (sequential_run p))))
-output-some mode.Check p = check-some p
+-- no trace is empty
+pub trace-some : (p : Plan) → 0 < length (trace p)
+trace-some p = omega (arith, end-some (length (sequential_run p)), length-append (trace_text p (sequential_run p)) (end_line (length (sequential_run p))))
+
+-- nor the output of an optimistic run
+pub run-some : (asked : Bool) (p : Plan) (j : List Event) → 0 < length (run_output asked p j)
+run-some asked p j = more-some (trace p) (asked_lines asked j) (trace-some p)
+
+-- nor the line of an event
+pub event-some : (e : Event) → 0 < length (event_line e)
+event-some (event.Deliver to from) =
+    let five : length (codes "#j d ") ≡ 5 = refl in
+    more-some (codes "#j d ") (pair_text to from) (omega (arith, five))
+event-some (event.Commit (at.At s)) =
+    let five : length (codes "#j c ") ≡ 5 = refl in
+    more-some (codes "#j c ") (pair_text s.time s.agent) (omega (arith, five))
+event-some (event.Commit at.End) =
+    let nine : length (codes "#j c end\n") ≡ 9 = refl in
+    omega (arith, nine)
 
 -- nothing lacks a byte of what isn't empty
 pub part-none : (old : Option (List ℕ)) (bytes : List ℕ) → 0 < length bytes → AppendsPart old old bytes
@@ -45,7 +62,7 @@ take-over (x ∷ xs) ys zs k lt =
     ap (λ n. take n (x ∷ (xs ++ (ys ++ zs)))) e ∙ ap (λ v. x ∷ v) (take-over xs ys zs k lt)
 
 -- what lacks a byte of a later part lacks a byte of the whole
-part-within : (old now new : Option (List ℕ)) (xs ys zs : List ℕ) → Appends old now xs → AppendsPart now new ys → AppendsPart old new (xs ++ (ys ++ zs))
+pub part-within : (old now new : Option (List ℕ)) (xs ys zs : List ℕ) → Appends old now xs → AppendsPart now new ys → AppendsPart old new (xs ++ (ys ++ zs))
 part-within old now new xs ys zs a p = (
   length xs + p.0,
   omega (arith, p.1, length-append xs (ys ++ zs), length-append ys zs),

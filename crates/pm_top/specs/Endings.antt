@@ -1,8 +1,17 @@
 -- How a call of the program may end.
 use Rattle.std.specs.Prelude.{ℕ, List, [], ◌++◌, codes}
+use Rattle.pm_kernel.specs.declared.ran.Outcome.{Outcome}
+use Rattle.pm_kernel.specs.declared.ran.Outcome.TheVariants as outcome
 use Rattle.pm_top.specs.Refusals.{refusal}
 use Rattle.pm_top.specs.declared.outcome.Ending.{Ending}
 use Rattle.pm_top.specs.declared.outcome.Ending.TheVariants as ending
+
+-- how a call ends whose run came to this
+abbrev pub ending_of : Outcome → Ending
+ending_of outcome.Done = ending.Done
+ending_of outcome.BudgetSpent = ending.BudgetSpent
+ending_of outcome.WriteFault = ending.WriteFault
+ending_of outcome.Memory = ending.Memory
 
 -- the status that the program ends with
 abbrev pub status_of : Ending → ℕ

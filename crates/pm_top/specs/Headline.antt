@@ -1,13 +1,15 @@
 -- What the program promises of a call.
 use Rattle.std.specs.Prelude.{◌≡◌, ◌≢◌, ◌⊎◌, ℕ, ◌<◌, ◌≤◌}
-use Rattle.std.specs.Prelude.{List, length, Option, None, IfSome, IfOk, Ok, Err}
+use Rattle.std.specs.Prelude.{List, [], length, Option, None, IfSome, Ok, Err}
 use Rattle.std.specs.Io.KnownBytes.{Appends, IsAtEnd}
-use Rattle.pm_io.specs.Causes.{AppendsPart, AppendsPrefix, Rose}
+use Rattle.pm_base.specs.declared.run.Event.{Event}
+use Rattle.pm_io.specs.Causes.{AppendsPrefix, Rose}
+use Rattle.pm_model.specs.Runs.{sequential_run}
 use Rattle.pm_plan.specs.declared.plan.Plan.{Plan}
 use Rattle.pm_scenario.specs.Scenarios.{plan_of}
 use Rattle.pm_scenario.specs.declared.fault.ScenarioFault.{ScenarioFault}
 use Rattle.pm_top.specs.Endings.{error_line}
-use Rattle.pm_top.specs.Outputs.{first_lines, output, steps}
+use Rattle.pm_top.specs.Printed.{PrintedOf}
 use Rattle.pm_top.specs.Readings.{IsReadPast}
 use Rattle.pm_top.specs.Speech.{Fails, SinkSight}
 use Rattle.pm_top.specs.declared.outcome.Ending.{Ending}
@@ -35,36 +37,17 @@ pub record IsAccepted (b : List ℕ) : Type 0 where
 abbrev pub IsUnfit : List ℕ → Type 0
 IsUnfit b = IsTooLong b ⊎ ((f : ScenarioFault) × IsRefused f b)
 
--- a scenario of which the mode does at most as many steps as the budget
+-- a plan of which the mode's work ends within the budget: in mode `seq` one of at most as many steps, in mode `check`
+-- each; in mode `run` no budget is said to be enough
+abbrev pub IsEnough : Mode → ℕ → Plan → Type 0
+IsEnough mode.Seq budget p = length (sequential_run p) ≤ budget
+IsEnough mode.Check budget p = Unit {0}
+IsEnough mode.Run budget p = ⊥
+
+-- a scenario of which the mode's work ends within the budget
 pub record IsWithin (m : Mode) (budget : ℕ) (b : List ℕ) : Type 0 where
   pub scenario : IsAccepted b
-  pub few : steps m scenario.plan ≤ budget
-
--- the input held a scenario of which the mode does at most as many steps as the budget, and out grew by its whole
--- output
-abbrev pub PrintsAll : Mode → ℕ → Option (List ℕ) → Option (List ℕ) → Option (List ℕ) → Type 0
-PrintsAll m budget held old new =
-    IfSome held (λ b. (p : Plan) × (plan_of b ≡ Ok p) × (steps m p ≤ budget) × Appends old new (output m p))
-
--- where the input held a scenario, out grew by a prefix of its output
-abbrev pub PrintsPrefix : Mode → Option (List ℕ) → Option (List ℕ) → Option (List ℕ) → Type 0
-PrintsPrefix m held old new = IfSome held (λ b. IfOk (plan_of b) (λ p. AppendsPrefix old new (output m p)))
-
--- where the input held a scenario, out grew by a part of its output that lacks at least one byte
-abbrev pub PrintsPart : Mode → Option (List ℕ) → Option (List ℕ) → Option (List ℕ) → Type 0
-PrintsPart m held old new = IfSome held (λ b. IfOk (plan_of b) (λ p. AppendsPart old new (output m p)))
-
--- the input held a scenario of which the mode does more steps than the budget, and out grew by the lines of as many
--- steps as the budget
-abbrev pub PrintsSpent : Mode → ℕ → Option (List ℕ) → Option (List ℕ) → Option (List ℕ) → Type 0
-PrintsSpent m budget held old new =
-    IfSome held (λ b. (p : Plan) × (plan_of b ≡ Ok p) × (budget < steps m p) × Appends old new (first_lines budget p))
-
--- where the input held a scenario of which the mode does more steps than the budget, out grew by a part of the lines
--- of as many steps as the budget that lacks at least one byte
-abbrev pub LacksLines : Mode → ℕ → Option (List ℕ) → Option (List ℕ) → Option (List ℕ) → Type 0
-LacksLines m budget held old new =
-    IfSome held (λ b. IfOk (plan_of b) (λ p. budget < steps m p → AppendsPart old new (first_lines budget p)))
+  pub enough : IsEnough m budget scenario.plan
 
 -- the endings of a run, which begins with the whole input
 abbrev pub EndsRun : Ending → Type 0
@@ -100,10 +83,12 @@ pub record SourceSight : Type 0 where
   pub held : Option (List ℕ)
   pub faults : ℕ
 
--- a call: its settings, none where the words are refused, how it ended, and its devices before and after
+-- a call: its settings, none where the words are refused, how it ended with which journal, and its devices before and
+-- after
 pub record Call : Type 0 where
   pub settings : Option Settings
   pub ending : Ending
+  pub journal : List Event
   pub input : SourceSight
   pub input_after : SourceSight
   pub out : SinkSight
@@ -111,22 +96,19 @@ pub record Call : Type 0 where
   pub err : SinkSight
   pub err_after : SinkSight
 
--- what out holds after each ending
-pub record IsPrinted (c : Call) (s : Settings) : Type 0 where
-  pub done : c.ending ≡ ending.Done → PrintsAll s.mode s.run.budget c.input.held c.out.holds c.out_after.holds
-  pub spent : c.ending ≡ ending.BudgetSpent
-      → PrintsSpent s.mode s.run.budget c.input.held c.out.holds c.out_after.holds
-  pub part : PrintsPrefix s.mode c.input.held c.out.holds c.out_after.holds
-  pub unfinished : c.ending ≢ ending.Done → PrintsPart s.mode c.input.held c.out.holds c.out_after.holds
-  pub lacks : c.ending ≡ ending.WriteFault
-      → LacksLines s.mode s.run.budget c.input.held c.out.holds c.out_after.holds
-  pub sequential : c.ending ≡ ending.BudgetSpent → s.mode ≡ mode.Seq
+-- the journal is empty in the modes that have no optimistic run, at each ending that writes nothing, and of a text that
+-- is refused or too long
+pub record HasJournal (c : Call) : Type 0 where
+  pub runs : IfSome c.settings (λ s. s.mode ≢ mode.Run → c.journal ≡ [])
+  pub nothing : WritesNothing c.ending → c.journal ≡ []
+  pub unfit : IfSome c.input.held (λ b. IsUnfit b → c.journal ≡ [])
 
 -- the call ended as one whose words are refused, or for want of memory, and touched neither input nor out
 pub record IsStopped (c : Call) : Type 0 where
   pub ended : (c.ending ≡ ending.Words) ⊎ (c.ending ≡ ending.Memory)
   pub input : c.input_after ≡ c.input
   pub out : c.out_after ≡ c.out
+  pub journal : c.journal ≡ []
 
 -- why each ending came
 pub record IsCaused (c : Call) : Type 0 where
@@ -134,6 +116,7 @@ pub record IsCaused (c : Call) : Type 0 where
   pub no_words : c.settings ≡ None → IsStopped c
   pub refused : (f : ScenarioFault) → c.ending ≡ ending.Refused f → IfSome c.input.held (IsRefused f)
   pub too_long : c.ending ≡ ending.TooLong → IfSome c.input.held IsTooLong × IsReadPast c.input.held c.input_after.held
+  pub budget : c.ending ≡ ending.BudgetSpent → IfSome c.settings (λ s. s.mode ≢ mode.Check)
   pub accepted : (c.ending ≡ ending.Done) ⊎ ((c.ending ≡ ending.BudgetSpent) ⊎ (c.ending ≡ ending.WriteFault))
       → IfSome c.input.held IsAccepted
   pub read : ReadsAll c.ending → IsAtEnd c.input_after.held
@@ -158,7 +141,9 @@ pub record IsComplete (c : Call) (s : Settings) : Type 0 where
 
 -- what every call promises
 pub record IsServed (c : Call) : Type 0 where
-  pub printed : IfSome c.settings (IsPrinted c)
+  pub printed : IfSome c.settings (λ s.
+      PrintedOf s c.input.held c.ending c.journal c.out.holds c.out_after.holds)
+  pub journal : HasJournal c
   pub caused : IsCaused c
   pub told : IsTold c
   pub complete : IfSome c.settings (IsComplete c)

@@ -3,10 +3,10 @@ ghost use Rattle.std.specs.Io.KnownBytes.{Appends};
 ghost use Rattle.pm_io.specs.Causes.{AppendsPart, AppendsPrefix, Rose};
 ghost use Rattle.pm_top.specs.Outputs.{check_line};
 
-use crate::run::Ran;
 use itoa::Buffer;
 use pm_base::Memory;
 use pm_io::{Sink, write_whole};
+use pm_kernel::Outcome;
 use pm_plan::Plan;
 use std::alloc::Global;
 
@@ -34,21 +34,21 @@ fn check_line(alloc: Global, plan: &Plan) -> Result<String, Memory>
 }
 
 /// Writes the line of a plan's parts.
-pub fn write_check<K: Sink>(alloc: Global, plan: &Plan, out: &mut K) -> Ran
-    ensures done { result ≡ Ran.Done → Appends (K.holds out.old) (K.holds out.new) (check_line plan.now) }
+pub fn write_check<K: Sink>(alloc: Global, plan: &Plan, out: &mut K) -> Outcome
+    ensures done { result ≡ Outcome.Done → Appends (K.holds out.old) (K.holds out.new) (check_line plan.now) }
     ensures part { AppendsPrefix (K.holds out.old) (K.holds out.new) (check_line plan.now) }
-    ensures unfinished { result ≢ Ran.Done → AppendsPart (K.holds out.old) (K.holds out.new) (check_line plan.now) }
-    ensures cause { result ≡ Ran.WriteFault → Rose (K.faults out.old) (K.faults out.new)
+    ensures unfinished { result ≢ Outcome.Done → AppendsPart (K.holds out.old) (K.holds out.new) (check_line plan.now) }
+    ensures cause { result ≡ Outcome.WriteFault → Rose (K.faults out.old) (K.faults out.new)
         ⊎ Rose (K.stalls out.old) (K.stalls out.new) }
-    ensures wrote { result ≢ Ran.BudgetSpent }
+    ensures wrote { result ≢ Outcome.BudgetSpent }
     ensures faults { K.faults out.old ≤ K.faults out.new }
     ensures stalls { K.stalls out.old ≤ K.stalls out.new }
 {
     match check_line(alloc, plan) {
         Ok(line) => match write_whole(out, line.as_bytes()) {
-            Ok(()) => Ran::Done,
-            Err(_) => Ran::WriteFault,
+            Ok(()) => Outcome::Done,
+            Err(_) => Outcome::WriteFault,
         },
-        Err(_) => Ran::Memory,
+        Err(_) => Outcome::Memory,
     }
 }

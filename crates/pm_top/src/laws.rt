@@ -1,22 +1,23 @@
-ghost use Rattle.std.specs.Prelude.{◌≡◌, [], ◌∷◌, codes};
+ghost use Rattle.std.specs.Prelude.{◌≡◌, [], codes, length};
 ghost use Rattle.pm_model.specs.Examples.{counter, tie_write_first};
+ghost use Rattle.pm_model.specs.Runs.{sequential_run};
+ghost use Rattle.pm_model.specs.Traces.{trace};
 ghost use Rattle.pm_plan.specs.declared.fault.PlanFault.TheVariants as plan;
 ghost use Rattle.pm_plan.specs.declared.plan.Kind.TheVariants as kind;
 ghost use Rattle.pm_rules.specs.declared.fault.RuleFault.TheVariants as rule;
 ghost use Rattle.pm_scenario.specs.declared.fault.ScenarioFault.TheVariants as fault;
 ghost use Rattle.pm_top.specs.Endings.{error_line, status_of};
-ghost use Rattle.pm_top.specs.Outputs.{first_lines, output, steps};
+ghost use Rattle.pm_top.specs.Outputs.{check_line, first_lines};
 ghost use Rattle.pm_top.specs.Refusals.{refusal};
 ghost use Rattle.pm_top.specs.declared.outcome.Ending.TheVariants as ending;
-ghost use Rattle.pm_words.specs.declared.settings.Mode.TheVariants as mode;
 
 /// What the modes write of the plan in which one agent counts at three times.
 pub fn worked_outputs()
-    ensures parts { output mode.Check counter ≡ codes "ok clps 1 classes 1 vars 1 agents 1\n" }
-    ensures pair { output mode.Check tie_write_first ≡ codes "ok clps 1 classes 1 vars 1 agents 2\n" }
-    ensures trace { output mode.Seq counter ≡
+    ensures parts { check_line counter ≡ codes "ok clps 1 classes 1 vars 1 agents 1\n" }
+    ensures pair { check_line tie_write_first ≡ codes "ok clps 1 classes 1 vars 1 agents 2\n" }
+    ensures trace { trace counter ≡
         codes "0 ant [c0=0,0] c0:=1,0\n1 ant [c0=1,0] c0:=2,0\n2 ant [c0=2,0] c0:=3,0\nend 3\n" }
-    ensures steps { steps mode.Seq counter ≡ 3 }
+    ensures steps { length (sequential_run counter) ≡ 3 }
     ensures first { first_lines 2 counter ≡ codes "0 ant [c0=0,0] c0:=1,0\n1 ant [c0=1,0] c0:=2,0\n" }
 {}
 

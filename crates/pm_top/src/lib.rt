@@ -3,6 +3,7 @@
 
 mod check;
 mod laws;
+mod optimistic;
 mod outcome;
 mod program;
 mod reading;

@@ -1,27 +1,30 @@
-ghost use Rattle.std.specs.Prelude.{◌≡◌, ◌≢◌, ◌↔◌, ◌⊎◌, ◌≤◌, ◌<◌, [], Some, None, IfSome, Ok, Err, length, map, string_bytes};
-ghost use Rattle.std.specs.Io.KnownBytes.{Appends, IsAtEnd};
-ghost use Rattle.pm_io.specs.Causes.{AppendsPart, AppendsPrefix, Rose};
-ghost use Rattle.pm_plan.specs.Limits.{IsWithinLimits};
+ghost use Rattle.std.specs.Prelude.{◌≡◌, ◌≢◌, ◌⊎◌, ◌≤◌, [], Some, None, IfSome, Ok, Err, length, map, string_bytes};
+ghost use Rattle.std.specs.Io.KnownBytes.{IsAtEnd};
+ghost use Rattle.pm_io.specs.Causes.{Rose};
+ghost use Rattle.pm_kernel.specs.declared.ran.Outcome.{Outcome as TheOutcome};
 ghost use Rattle.pm_plan.specs.Plans.{IsValid};
 ghost use Rattle.pm_plan.specs.declared.plan.Plan.{Plan as ThePlan};
 ghost use Rattle.pm_scenario.specs.Scenarios.{plan_of};
 ghost use Rattle.pm_scenario.specs.declared.fault.ScenarioFault.{ScenarioFault as TheFault};
-ghost use Rattle.pm_top.specs.Endings.{status_of};
-ghost use Rattle.pm_top.specs.Headline.{EndsRun, IsAccepted, IsRefused, IsServed, IsTooLong, IsUnfit, LacksLines, PrintsAll, PrintsPart, PrintsPrefix, PrintsSpent, ReadsAll, WritesNothing};
-ghost use Rattle.pm_top.specs.Outputs.{first_lines, output, steps};
+ghost use Rattle.pm_top.specs.Endings.{ending_of, error_line, status_of};
+ghost use Rattle.pm_top.specs.Headline.{EndsRun, IsAccepted, IsRefused, IsServed, IsTooLong, IsUnfit, Offers, ReadsAll, WritesNothing};
+ghost use Rattle.pm_top.specs.Printed.{PrintedIn, PrintedOf};
 ghost use Rattle.pm_top.specs.Readings.{IsReadPast};
+ghost use Rattle.pm_words.specs.Ranges.{IsInRange};
 ghost use Rattle.pm_words.specs.Words.{settings_of};
 
 use crate::check::write_check;
+use crate::optimistic::write_optimistic;
 use crate::outcome::{Ending, offer, status_of};
 use crate::reading::{Unread, read_whole};
-use crate::run::{Ran, write_run};
+use crate::run::write_run;
 use pm_base::{Journal, List};
 use pm_io::{Gate, Sink, Source};
+use pm_kernel::Outcome;
 use pm_plan::Plan;
 use pm_plan::laws::limits_are_kept;
 use pm_scenario::{ScenarioFault, read};
-use pm_words::{Mode, WordsFault};
+use pm_words::{Mode, Settings, WordsFault};
 use std::alloc::Global;
 use std::thread::Threads;
 
@@ -32,126 +35,151 @@ pub struct Report {
     pub status: u8,
     /// Why it is that status.
     pub ending: Ending,
-    /// The events of a run of the optimistic core, of which the modes `seq` and `check` have none.
+    /// The events of the optimistic run, up to its last Commit; the modes `seq` and `check` have none.
     pub journal: Journal,
 }
 
-fn ending_of(ran: Ran) -> Ending
-    ensures done { (result ≡ Ending.Done) ↔ (ran ≡ Ran.Done) }
-    ensures spent { result ≡ Ending.BudgetSpent → ran ≡ Ran.BudgetSpent }
-    ensures fault { result ≡ Ending.WriteFault → ran ≡ Ran.WriteFault }
-    ensures ran { EndsRun result }
-    ensures plan { (f : TheFault) → result ≢ Ending.Refused f }
+/// How a mode's work ended, and the events of its run.
+#[derive(Debug, Drop)]
+struct Worked {
+    ending: Ending,
+    journal: Journal,
+}
+
+/// How a call ends whose run came to this.
+fn ending_of(outcome: Outcome) -> Ending
+    ensures { result ≡ ending_of outcome }
 {
-    match ran {
-        Ran::Done => Ending::Done,
-        Ran::BudgetSpent => Ending::BudgetSpent,
-        Ran::WriteFault => Ending::WriteFault,
-        Ran::Memory => Ending::Memory,
+    match outcome {
+        Outcome::Done => Ending::Done,
+        Outcome::BudgetSpent => Ending::BudgetSpent,
+        Outcome::WriteFault => Ending::WriteFault,
+        Outcome::Memory => Ending::Memory,
+    }
+}
+
+/// An ending without a journal.
+fn still(alloc: Global, ending: Ending) -> Worked
+    ensures ending { result.ending ≡ ending }
+    ensures journal { result.journal ≡ [] }
+{
+    Worked {
+        ending,
+        journal: List::new(alloc),
     }
 }
 
 /// Writes what the mode writes of a plan.
-fn write_output<K: Sink>(alloc: Global, mode: Mode, plan: &Plan, budget: u64, out: &mut K) -> Ran
-    requires { IsWithinLimits plan.now }
-    ensures done { result ≡ Ran.Done → Appends (K.holds out.old) (K.holds out.new) (output mode plan.now) }
-    ensures within { result ≡ Ran.Done → steps mode plan.now ≤ budget }
-    ensures spent { result ≡ Ran.BudgetSpent → (budget < steps mode plan.now)
-        × Appends (K.holds out.old) (K.holds out.new) (first_lines budget plan.now) }
-    ensures part { AppendsPrefix (K.holds out.old) (K.holds out.new) (output mode plan.now) }
-    ensures unfinished { result ≢ Ran.Done → AppendsPart (K.holds out.old) (K.holds out.new) (output mode plan.now) }
-    ensures lacks { result ≡ Ran.WriteFault → budget < steps mode plan.now →
-        AppendsPart (K.holds out.old) (K.holds out.new) (first_lines budget plan.now) }
-    ensures cause { result ≡ Ran.WriteFault → Rose (K.faults out.old) (K.faults out.new)
+fn write_output<K: Sink>(
+    alloc: Global,
+    mode: Mode,
+    settings: &Settings,
+    plan: &Plan,
+    out: &mut K,
+) -> Worked
+    requires valid { IsValid plan.now }
+    requires range { IsInRange settings.now.run }
+    ensures printed { PrintedIn mode settings.now plan.now result.ending result.journal
+        (K.holds out.old) (K.holds out.new) }
+    ensures ran { (o : TheOutcome) × (result.ending ≡ ending_of o) }
+    ensures cause { result.ending ≡ Ending.WriteFault → Rose (K.faults out.old) (K.faults out.new)
         ⊎ Rose (K.stalls out.old) (K.stalls out.new) }
-    ensures sequential { result ≡ Ran.BudgetSpent → mode ≡ Mode.Seq }
+    ensures budget { result.ending ≡ Ending.BudgetSpent → mode ≢ Mode.Check }
+    ensures journal { mode ≢ Mode.Run → result.journal ≡ [] }
 {
     match mode {
-        Mode::Seq => write_run(alloc, plan, budget, out),
-        Mode::Check => write_check(alloc, plan, out),
+        Mode::Seq => {
+            limits_are_kept(plan);
+            let outcome = write_run(alloc, plan, settings.run.budget, out);
+            still(alloc, ending_of(outcome))
+        }
+        Mode::Check => {
+            let outcome = write_check(alloc, plan, out);
+            still(alloc, ending_of(outcome))
+        }
+        Mode::Run => {
+            let ran = write_optimistic(alloc, plan, settings, out);
+            Worked {
+                ending: ending_of(ran.outcome),
+                journal: ran.journal,
+            }
+        }
     }
 }
 
 /// Writes what the mode writes of a scenario's text.
-fn run_text<K: Sink>(alloc: Global, mode: Mode, bytes: &[u8], budget: u64, out: &mut K) -> Ending
+fn run_text<K: Sink>(alloc: Global, settings: &Settings, bytes: &[u8], out: &mut K) -> Worked
     requires few { length bytes.now ≤ 4194304 }
-    ensures done { result ≡ Ending.Done →
-        PrintsAll mode budget (Some bytes.now) (K.holds out.old) (K.holds out.new) }
-    ensures spent { result ≡ Ending.BudgetSpent →
-        PrintsSpent mode budget (Some bytes.now) (K.holds out.old) (K.holds out.new) }
-    ensures part { PrintsPrefix mode (Some bytes.now) (K.holds out.old) (K.holds out.new) }
-    ensures unfinished { result ≢ Ending.Done →
-        PrintsPart mode (Some bytes.now) (K.holds out.old) (K.holds out.new) }
-    ensures lacks { result ≡ Ending.WriteFault →
-        LacksLines mode budget (Some bytes.now) (K.holds out.old) (K.holds out.new) }
-    ensures refused { (f : TheFault) → result ≡ Ending.Refused f →
-        (plan_of bytes.now ≡ Err f) × (out.new ≡ out.old) }
-    ensures accepted { (result ≡ Ending.Done) ⊎ ((result ≡ Ending.BudgetSpent) ⊎ (result ≡ Ending.WriteFault)) →
-        (p : ThePlan) × (plan_of bytes.now ≡ Ok p) }
-    ensures fault { result ≡ Ending.WriteFault → Rose (K.faults out.old) (K.faults out.new)
+    requires range { IsInRange settings.now.run }
+    ensures printed { PrintedOf settings.now (Some bytes.now) result.ending result.journal
+        (K.holds out.old) (K.holds out.new) }
+    ensures refused { (f : TheFault) → result.ending ≡ Ending.Refused f → plan_of bytes.now ≡ Err f }
+    ensures accepted { (result.ending ≡ Ending.Done) ⊎ ((result.ending ≡ Ending.BudgetSpent)
+        ⊎ (result.ending ≡ Ending.WriteFault)) → (p : ThePlan) × (plan_of bytes.now ≡ Ok p) }
+    ensures fault { result.ending ≡ Ending.WriteFault → Rose (K.faults out.old) (K.faults out.new)
         ⊎ Rose (K.stalls out.old) (K.stalls out.new) }
-    ensures ran { EndsRun result }
-    ensures sequential { result ≡ Ending.BudgetSpent → mode ≡ Mode.Seq }
-    ensures unfit { (f : TheFault) → plan_of bytes.now ≡ Err f → out.new ≡ out.old }
+    ensures ran { EndsRun result.ending }
+    ensures budget { result.ending ≡ Ending.BudgetSpent → settings.now.mode ≢ Mode.Check }
+    ensures unfit { (f : TheFault) → plan_of bytes.now ≡ Err f → (result.journal ≡ []) × (out.new ≡ out.old) }
+    ensures journal { settings.now.mode ≢ Mode.Run → result.journal ≡ [] }
 {
-    let plan = match read(alloc, bytes) {
-        Ok(plan) => plan,
-        Err(ScenarioFault::Memory) => return Ending::Memory,
-        Err(fault) => return Ending::Refused(fault),
-    };
-    limits_are_kept(&plan);
-    ending_of(write_output(alloc, mode, &plan, budget, out))
+    match read(alloc, bytes) {
+        Ok(plan) => write_output(alloc, settings.mode, settings, &plan, out),
+        Err(ScenarioFault::Memory) => still(alloc, Ending::Memory),
+        Err(fault) => still(alloc, Ending::Refused(fault)),
+    }
 }
 
 /// Reads the input and does what the mode does.
 fn run_mode<S: Source, K: Sink>(
     alloc: Global,
-    mode: Mode,
-    budget: u64,
+    settings: &Settings,
     input: &mut S,
     out: &mut K,
-) -> Ending
-    ensures done { result ≡ Ending.Done →
-        PrintsAll mode budget (S.held input.old) (K.holds out.old) (K.holds out.new) }
-    ensures spent { result ≡ Ending.BudgetSpent →
-        PrintsSpent mode budget (S.held input.old) (K.holds out.old) (K.holds out.new) }
-    ensures part { PrintsPrefix mode (S.held input.old) (K.holds out.old) (K.holds out.new) }
-    ensures unfinished { result ≢ Ending.Done →
-        PrintsPart mode (S.held input.old) (K.holds out.old) (K.holds out.new) }
-    ensures lacks { result ≡ Ending.WriteFault →
-        LacksLines mode budget (S.held input.old) (K.holds out.old) (K.holds out.new) }
-    ensures nothing { WritesNothing result → out.new ≡ out.old }
-    ensures refused { (f : TheFault) → result ≡ Ending.Refused f → IfSome (S.held input.old) (IsRefused f) }
-    ensures too_long { result ≡ Ending.TooLong → IfSome (S.held input.old) IsTooLong
+) -> Worked
+    requires range { IsInRange settings.now.run }
+    ensures printed { PrintedOf settings.now (S.held input.old) result.ending result.journal
+        (K.holds out.old) (K.holds out.new) }
+    ensures nothing { WritesNothing result.ending → (result.journal ≡ []) × (out.new ≡ out.old) }
+    ensures refused { (f : TheFault) → result.ending ≡ Ending.Refused f → IfSome (S.held input.old) (IsRefused f) }
+    ensures too_long { result.ending ≡ Ending.TooLong → IfSome (S.held input.old) IsTooLong
         × IsReadPast (S.held input.old) (S.held input.new) }
-    ensures accepted { (result ≡ Ending.Done) ⊎ ((result ≡ Ending.BudgetSpent) ⊎ (result ≡ Ending.WriteFault)) →
-        IfSome (S.held input.old) IsAccepted }
-    ensures read { ReadsAll result → IsAtEnd (S.held input.new) }
-    ensures read_fault { result ≡ Ending.ReadFault → Rose (S.faults input.old) (S.faults input.new) }
-    ensures write_fault { result ≡ Ending.WriteFault → Rose (K.faults out.old) (K.faults out.new)
+    ensures accepted { (result.ending ≡ Ending.Done) ⊎ ((result.ending ≡ Ending.BudgetSpent)
+        ⊎ (result.ending ≡ Ending.WriteFault)) → IfSome (S.held input.old) IsAccepted }
+    ensures read { ReadsAll result.ending → IsAtEnd (S.held input.new) }
+    ensures read_fault { result.ending ≡ Ending.ReadFault → Rose (S.faults input.old) (S.faults input.new) }
+    ensures write_fault { result.ending ≡ Ending.WriteFault → Rose (K.faults out.old) (K.faults out.new)
         ⊎ Rose (K.stalls out.old) (K.stalls out.new) }
-    ensures words { result ≢ Ending.Words }
-    ensures sequential { result ≡ Ending.BudgetSpent → mode ≡ Mode.Seq }
-    ensures unfit { IfSome (S.held input.old) (λ b. IsUnfit b → out.new ≡ out.old) }
+    ensures words { result.ending ≢ Ending.Words }
+    ensures budget { result.ending ≡ Ending.BudgetSpent → settings.now.mode ≢ Mode.Check }
+    ensures unfit { IfSome (S.held input.old) (λ b. IsUnfit b → (result.journal ≡ []) × (out.new ≡ out.old)) }
+    ensures journal { settings.now.mode ≢ Mode.Run → result.journal ≡ [] }
 {
     let bytes = match read_whole(alloc, input) {
         Ok(bytes) => bytes,
-        Err(Unread::Failed) => return Ending::ReadFault,
-        Err(Unread::TooLong) => return Ending::TooLong,
-        Err(Unread::Memory) => return Ending::Memory,
+        Err(Unread::Failed) => return still(alloc, Ending::ReadFault),
+        Err(Unread::TooLong) => return still(alloc, Ending::TooLong),
+        Err(Unread::Memory) => return still(alloc, Ending::Memory),
     };
-    run_text(alloc, mode, bytes.as_slice(), budget, out)
+    run_text(alloc, settings, bytes.as_slice(), out)
 }
 
-fn report_of(alloc: Global, ending: Ending) -> Report
-    ensures status { result.status ≡ status_of ending }
-    ensures ending { result.ending ≡ ending }
-    ensures journal { result.journal ≡ [] }
+/// Offers the line of an ending and reports it.
+fn report_of<E: Sink>(worked: Worked, err: &mut E) -> Report
+    ensures status { result.status ≡ status_of result.ending }
+    ensures ending { result.ending ≡ worked.ending }
+    ensures journal { result.journal ≡ worked.journal }
+    ensures silent { worked.ending ≡ Ending.Done → err.new ≡ err.old }
+    ensures told { worked.ending ≢ Ending.Done → Offers
+        (record { holds = E.holds err.old; faults = E.faults err.old; stalls = E.stalls err.old })
+        (record { holds = E.holds err.new; faults = E.faults err.new; stalls = E.stalls err.new })
+        (error_line worked.ending) }
 {
+    offer(err, &worked.ending);
     Report {
-        status: status_of(&ending),
-        ending,
-        journal: List::new(alloc),
+        status: status_of(&worked.ending),
+        ending: worked.ending,
+        journal: worked.journal,
     }
 }
 
@@ -167,6 +195,7 @@ fn serve<S: Source, K: Sink, E: Sink>(
     ensures served { IsServed (record {
       settings = settings_of (map string_bytes words.now.items);
       ending = result.ending;
+      journal = result.journal;
       input = record { held = S.held input.old; faults = S.faults input.old };
       input_after = record { held = S.held input.new; faults = S.faults input.new };
       out = record { holds = K.holds out.old; faults = K.faults out.old; stalls = K.stalls out.old };
@@ -179,28 +208,21 @@ fn serve<S: Source, K: Sink, E: Sink>(
     ensures untouched { settings_of (map string_bytes words.now.items) ≡ None →
         (input.new ≡ input.old) × (out.new ≡ out.old) }
     ensures silent { result.ending ≡ Ending.Done → err.new ≡ err.old }
-    ensures journal { result.journal ≡ [] }
 {
     let settings = match pm_words::read(alloc, words) {
         Ok(settings) => settings,
-        Err(WordsFault::Words) => {
-            offer(err, &Ending::Words);
-            return report_of(alloc, Ending::Words);
-        }
-        Err(WordsFault::Memory) => {
-            offer(err, &Ending::Memory);
-            return report_of(alloc, Ending::Memory);
-        }
+        Err(WordsFault::Words) => return report_of(still(alloc, Ending::Words), err),
+        Err(WordsFault::Memory) => return report_of(still(alloc, Ending::Memory), err),
     };
-    let ending = run_mode(alloc, settings.mode, settings.run.budget, input, out);
-    offer(err, &ending);
-    report_of(alloc, ending)
+    let worked = run_mode(alloc, &settings, input, out);
+    report_of(worked, err)
 }
 
 /// All that the program does. `words` are those after the program's name, as `pm_words` reads them: the mode `seq`, for
-/// the sequential run of the scenario that `input` holds, or `check`, for how many parts it has. A run's trace is written
-/// to `out`, each line by itself, up to as many steps as the option `budget` says; at each ending but `Done` the line of
-/// that ending is offered to `err`. Nothing asks `gate` and no thread is started in these modes.
+/// the sequential run of the scenario that `input` holds; `run`, for the optimistic run of it, which prints the same
+/// trace; or `check`, for how many parts it has. A run's trace is written to `out`, each line by itself, for as many
+/// steps, in mode `run` deliveries, as the option `budget` says; at each ending but `Done` the line of that ending is
+/// offered to `err`. Nothing asks `gate` and no thread is started: any number of workers is served on this thread.
 pub fn top<R: Threads + Sync, S: Source, K: Sink, E: Sink, G: Gate + Sync>(
     rt: &R,
     alloc: Global,
@@ -214,6 +236,7 @@ pub fn top<R: Threads + Sync, S: Source, K: Sink, E: Sink, G: Gate + Sync>(
     ensures served { IsServed (record {
       settings = settings_of (map string_bytes words.now.items);
       ending = result.ending;
+      journal = result.journal;
       input = record { held = S.held input.old; faults = S.faults input.old };
       input_after = record { held = S.held input.new; faults = S.faults input.new };
       out = record { holds = K.holds out.old; faults = K.faults out.old; stalls = K.stalls out.old };
@@ -226,7 +249,6 @@ pub fn top<R: Threads + Sync, S: Source, K: Sink, E: Sink, G: Gate + Sync>(
     ensures untouched { settings_of (map string_bytes words.now.items) ≡ None →
         (input.new ≡ input.old) × (out.new ≡ out.old) }
     ensures silent { result.ending ≡ Ending.Done → err.new ≡ err.old }
-    ensures journal { result.journal ≡ [] }
 {
     let _ = rt;
     let _ = gate;
@@ -245,6 +267,7 @@ pub fn plain<S: Source, K: Sink, E: Sink>(
     ensures served { IsServed (record {
       settings = settings_of (map string_bytes words.now.items);
       ending = result.ending;
+      journal = result.journal;
       input = record { held = S.held input.old; faults = S.faults input.old };
       input_after = record { held = S.held input.new; faults = S.faults input.new };
       out = record { holds = K.holds out.old; faults = K.faults out.old; stalls = K.stalls out.old };
@@ -257,7 +280,6 @@ pub fn plain<S: Source, K: Sink, E: Sink>(
     ensures untouched { settings_of (map string_bytes words.now.items) ≡ None →
         (input.new ≡ input.old) × (out.new ≡ out.old) }
     ensures silent { result.ending ≡ Ending.Done → err.new ≡ err.old }
-    ensures journal { result.journal ≡ [] }
 {
     serve(alloc, words, input, out, err)
 }

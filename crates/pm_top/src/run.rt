@@ -1,12 +1,14 @@
-ghost use Rattle.std.specs.Prelude.{◌≡◌, ◌≢◌, ◌≤◌, ◌<◌, ◌∷◌, ◌⊎◌, [], List, length, take};
+ghost use Rattle.std.specs.Prelude.{◌≡◌, ◌≢◌, ◌≤◌, ◌<◌, ◌∷◌, ◌⊎◌, [], List, length};
 ghost use Rattle.std.specs.Io.KnownBytes.{Appends};
 ghost use Rattle.pm_io.specs.Causes.{AppendsPart, AppendsPrefix, Rose};
 ghost use Rattle.pm_base.specs.declared.rows.Entry.{Entry as TheEntry};
 ghost use Rattle.pm_plan.specs.Limits.{IsWithinLimits};
 ghost use Rattle.pm_model.specs.Runs.{rest, sequential_run};
-ghost use Rattle.pm_model.specs.Traces.{line, end_line, trace, trace_text};
+ghost use Rattle.pm_model.specs.Traces.{line, end_line, trace};
+ghost use Rattle.pm_top.specs.Outputs.{first_lines};
 
 use pm_io::{Sink, write_whole};
+use pm_kernel::Outcome;
 use pm_plan::Plan;
 use pm_seq::Seq;
 use pm_trace::{end_line, line};
@@ -17,15 +19,6 @@ use std::alloc::Global;
 enum Stepped {
     Wrote,
     End,
-    WriteFault,
-    Memory,
-}
-
-/// How a run went.
-#[derive(Clone, Copy, Debug, PartialEq, Eq)]
-pub enum Ran {
-    Done,
-    BudgetSpent,
     WriteFault,
     Memory,
 }
@@ -64,58 +57,58 @@ fn write_step<K: Sink>(alloc: Global, plan: &Plan, seq: &mut Seq, out: &mut K) -
 
 /// Writes the trace of the sequential run: each line by itself, so that what was written is a prefix of the trace
 /// wherever the run stops. It does at most `budget` steps.
-pub fn write_run<K: Sink>(alloc: Global, plan: &Plan, budget: u64, out: &mut K) -> Ran
+pub fn write_run<K: Sink>(alloc: Global, plan: &Plan, budget: u64, out: &mut K) -> Outcome
     requires { IsWithinLimits plan.now }
-    ensures done { result ≡ Ran.Done → Appends (K.holds out.old) (K.holds out.new) (trace plan.now) }
-    ensures within { result ≡ Ran.Done → length (sequential_run plan.now) ≤ budget }
-    ensures spent { result ≡ Ran.BudgetSpent → (budget < length (sequential_run plan.now))
+    ensures done { result ≡ Outcome.Done → Appends (K.holds out.old) (K.holds out.new) (trace plan.now) }
+    ensures within { result ≡ Outcome.Done → length (sequential_run plan.now) ≤ budget }
+    ensures spent { result ≡ Outcome.BudgetSpent → (budget < length (sequential_run plan.now))
         × Appends (K.holds out.old) (K.holds out.new)
-        (trace_text plan.now (take budget (sequential_run plan.now))) }
+        (first_lines budget plan.now) }
     ensures part { AppendsPrefix (K.holds out.old) (K.holds out.new) (trace plan.now) }
-    ensures unfinished { result ≢ Ran.Done → AppendsPart (K.holds out.old) (K.holds out.new) (trace plan.now) }
-    ensures lacks { result ≡ Ran.WriteFault → budget < length (sequential_run plan.now) →
+    ensures unfinished { result ≢ Outcome.Done → AppendsPart (K.holds out.old) (K.holds out.new) (trace plan.now) }
+    ensures lacks { result ≡ Outcome.WriteFault → budget < length (sequential_run plan.now) →
         AppendsPart (K.holds out.old) (K.holds out.new)
-        (trace_text plan.now (take budget (sequential_run plan.now))) }
-    ensures cause { result ≡ Ran.WriteFault → Rose (K.faults out.old) (K.faults out.new)
+        (first_lines budget plan.now) }
+    ensures cause { result ≡ Outcome.WriteFault → Rose (K.faults out.old) (K.faults out.new)
         ⊎ Rose (K.stalls out.old) (K.stalls out.new) }
     ensures faults { K.faults out.old ≤ K.faults out.new }
     ensures stalls { K.stalls out.old ≤ K.stalls out.new }
 {
     let mut seq = match Seq::new(alloc, plan) {
         Ok(seq) => seq,
-        Err(_) => return Ran::Memory,
+        Err(_) => return Outcome::Memory,
     };
     let mut steps: u64 = 0;
     'steps: while steps < budget {
         match write_step(alloc, plan, &mut seq, out) {
             Stepped::Wrote => steps += 1,
             Stepped::End => return write_end(alloc, steps, out),
-            Stepped::WriteFault => return Ran::WriteFault,
-            Stepped::Memory => return Ran::Memory,
+            Stepped::WriteFault => return Outcome::WriteFault,
+            Stepped::Memory => return Outcome::Memory,
         }
     }
     if seq.done() {
         return write_end(alloc, steps, out);
     }
-    Ran::BudgetSpent
+    Outcome::BudgetSpent
 }
 
 /// Writes the end line.
-fn write_end<K: Sink>(alloc: Global, steps: u64, out: &mut K) -> Ran
-    ensures done { result ≡ Ran.Done → Appends (K.holds out.old) (K.holds out.new) (end_line steps) }
+pub fn write_end<K: Sink>(alloc: Global, steps: u64, out: &mut K) -> Outcome
+    ensures done { result ≡ Outcome.Done → Appends (K.holds out.old) (K.holds out.new) (end_line steps) }
     ensures part { AppendsPrefix (K.holds out.old) (K.holds out.new) (end_line steps) }
-    ensures unfinished { result ≢ Ran.Done → AppendsPart (K.holds out.old) (K.holds out.new) (end_line steps) }
-    ensures cause { result ≡ Ran.WriteFault → Rose (K.faults out.old) (K.faults out.new)
+    ensures unfinished { result ≢ Outcome.Done → AppendsPart (K.holds out.old) (K.holds out.new) (end_line steps) }
+    ensures cause { result ≡ Outcome.WriteFault → Rose (K.faults out.old) (K.faults out.new)
         ⊎ Rose (K.stalls out.old) (K.stalls out.new) }
-    ensures wrote { result ≢ Ran.BudgetSpent }
+    ensures wrote { result ≢ Outcome.BudgetSpent }
     ensures faults { K.faults out.old ≤ K.faults out.new }
     ensures stalls { K.stalls out.old ≤ K.stalls out.new }
 {
     match end_line(alloc, steps) {
         Ok(bytes) => match write_whole(out, bytes.as_slice()) {
-            Ok(()) => Ran::Done,
-            Err(_) => Ran::WriteFault,
+            Ok(()) => Outcome::Done,
+            Err(_) => Outcome::WriteFault,
         },
-        Err(_) => Ran::Memory,
+        Err(_) => Outcome::Memory,
     }
 }

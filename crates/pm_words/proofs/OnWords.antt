@@ -12,6 +12,11 @@ pub check : settings_of (codes "check" ∷ []) ≡ Some (record usual { mode = m
 unfolding settings_of parts_from mode_named
 check = refl
 
+pub run : settings_of (codes "run" ∷ codes "--epoch=5" ∷ codes "--journal" ∷ []) ≡
+    Some (record usual { mode = mode.Run; run = record usual_run { epoch = 5 }; journal = true })
+unfolding settings_of parts_from mode_named
+run = refl
+
 pub option_before : settings_of (codes "--workers=2" ∷ codes "seq" ∷ []) ≡
     Some (record usual { run = record usual_run { workers = 2 } })
 unfolding settings_of parts_from mode_named

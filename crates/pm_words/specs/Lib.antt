@@ -1,4 +1,5 @@
 pub mod Line
+pub mod Ranges
 pub mod Rows
 pub mod Usual
 pub mod Words

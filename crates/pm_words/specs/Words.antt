@@ -67,7 +67,8 @@ flag_name = codes "journal"
 unfoldable pub mode_named : Text → Option Mode
 mode_named word = cond (bytes_eq word (codes "seq")) (Some mode.Seq)
     (cond (bytes_eq word (codes "check")) (Some mode.Check)
-    None)
+    (cond (bytes_eq word (codes "run")) (Some mode.Run)
+    None))
 
 -- ---- the words, from left to right
 

@@ -7,6 +7,11 @@ ghost use Rattle.pm_words.specs.declared.settings.Mode.TheVariants as mode;
 pub fn worked_words()
     ensures alone { settings_of (codes "seq" ∷ []) ≡ Some usual }
     ensures check { settings_of (codes "check" ∷ []) ≡ Some (record usual { mode = mode.Check }) }
+    ensures run { settings_of (codes "run" ∷ codes "--epoch=5" ∷ codes "--journal" ∷ []) ≡ Some (record usual {
+      mode = mode.Run;
+      run = record usual_run { epoch = 5 };
+      journal = true;
+    }) }
     ensures option_before { settings_of (codes "--workers=2" ∷ codes "seq" ∷ []) ≡
         Some (record usual { run = record usual_run { workers = 2 } }) }
     ensures option_behind { settings_of (codes "seq" ∷ codes "--budget" ∷ codes "2" ∷ []) ≡

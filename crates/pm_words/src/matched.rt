@@ -1,5 +1,6 @@
 ghost use Rattle.std.specs.Prelude.{◌≡◌, ◌≤◌, IfSome, codes, option_and_then, option_map};
 ghost use Rattle.clap.specs.Words.{first_of, found_of, rows_of};
+ghost use Rattle.pm_words.specs.Ranges.{IsFrom, IsInRange};
 ghost use Rattle.pm_words.specs.Rows.{number_in, optional_in, row_settings};
 ghost use Rattle.pm_words.specs.Words.{is_true_text, mode_named};
 
@@ -25,9 +26,9 @@ fn mode_of(matches: &ArgMatches<'_>) -> Option<Mode>
 
 /// The value of the option of this name, or `default` where it doesn't stand.
 fn number(matches: &ArgMatches<'_>, name: &str, least: u64, most: u64, default: u64) -> Option<u64>
-    requires { default ≤ most }
+    requires { IsFrom least most default }
     ensures value { result ≡ number_in least most default (first_of name.now (rows_of (found_of matches.now))) }
-    ensures within { IfSome result (λ n. n ≤ most) }
+    ensures within { IfSome result (IsFrom least most) }
 {
     match text_of(matches, name) {
         Some(text) => value(text, least, most),
@@ -37,7 +38,8 @@ fn number(matches: &ArgMatches<'_>, name: &str, least: u64, most: u64, default: 
 
 /// The same, where there may be none.
 fn optional(matches: &ArgMatches<'_>, name: &str, least: u64, most: u64) -> Option<Option<u64>>
-    ensures { result ≡ optional_in least most (first_of name.now (rows_of (found_of matches.now))) }
+    ensures value { result ≡ optional_in least most (first_of name.now (rows_of (found_of matches.now))) }
+    ensures within { IfSome result (λ n. IfSome n (IsFrom least most)) }
 {
     match text_of(matches, name) {
         Some(text) => {
@@ -60,7 +62,8 @@ fn has_journal(matches: &ArgMatches<'_>) -> bool
 /// The settings that the matches give.
 #[tactic(auto, unfolding(crate::specs::Rows::row_settings))]
 pub fn settings_in(matches: &ArgMatches<'_>) -> Option<Settings>
-    ensures { result ≡ row_settings (rows_of (found_of matches.now)) }
+    ensures settings { result ≡ row_settings (rows_of (found_of matches.now)) }
+    ensures range { IfSome result (λ s. IsInRange s.run) }
 {
     let mode = mode_of(matches)?;
     let workers = number(matches, "workers", 0, 64, 4)?;

@@ -11,13 +11,15 @@ pub enum Mode {
     Seq,
     /// How many parts a scenario has.
     Check,
+    /// The optimistic run of a scenario.
+    Run,
 }
 
 /// What the words ask for. An option that the mode doesn't use has no effect.
 #[derive(Clone, Copy, Debug, PartialEq, Eq)]
 pub struct Settings {
     pub mode: Mode,
-    /// How a run goes; `budget` is counted in steps where the mode is `Seq`.
+    /// How a run goes; `budget` is counted in steps where the mode is `Seq`, in deliveries where it is `Run`.
     pub run: RunSettings,
     /// The number of the generated scenario.
     pub seed: u64,
@@ -45,6 +47,8 @@ pub fn mode_named(word: &str) -> Option<Mode>
         Some(Mode::Seq)
     } else if word == "check" {
         Some(Mode::Check)
+    } else if word == "run" {
+        Some(Mode::Run)
     } else {
         None
     }

@@ -1,6 +1,7 @@
 ghost use Rattle.std.specs.Prelude.{◌≡◌, ◌≤◌, IfSome, true};
 ghost use Rattle.std.specs.List.{list_all};
 ghost use Rattle.std.specs.Char.{is_ascii_digit};
+ghost use Rattle.pm_words.specs.Ranges.{IsFrom};
 ghost use Rattle.pm_words.specs.Rows.{number_below, value_in};
 ghost use Rattle.pm_words.specs.Words.{is_digits};
 
@@ -33,7 +34,7 @@ fn number_of(text: &str) -> Option<u64>
 #[tactic(auto, unfolding(crate::specs::Rows::value_in))]
 pub fn value(text: &str, least: u64, most: u64) -> Option<u64>
     ensures value { result ≡ value_in least most text.now }
-    ensures within { IfSome result (λ n. n ≤ most) }
+    ensures within { IfSome result (IsFrom least most) }
 {
     if !is_digits(text) {
         return None;

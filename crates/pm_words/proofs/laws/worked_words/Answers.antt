@@ -5,6 +5,7 @@ pub returns : goal.returns
 returns c = record {
   alone = rows.alone;
   check = rows.check;
+  run = rows.run;
   option_before = rows.option_before;
   option_behind = rows.option_behind;
   behind_hyphens = rows.behind_hyphens;

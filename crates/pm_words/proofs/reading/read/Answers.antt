@@ -10,9 +10,9 @@ returns-in-Err-clause-refused c = λ is. ap (λ xs. settings_of (map string_byte
 pub returns-in-Some-clause-ok : goal.returns-in-Some-clause-ok
 returns-in-Some-clause-ok c = ap (λ xs. settings_of (map string_bytes xs)) (sym c.as_slice.ensures.value)
     ∙ accepted (map string_bytes c.as_slice.result.now) _ c.in-Ok.ensures.taken c.in-Ok.ensures.rows
-    ∙ sym c.settings_in.ensures ∙ c.in-Some.is
+    ∙ sym c.settings_in.ensures.settings ∙ c.in-Some.is
 
 pub returns-clause-refused : goal.returns-clause-refused
 returns-clause-refused c = λ is. ap (λ xs. settings_of (map string_bytes xs)) (sym c.as_slice.ensures.value)
     ∙ accepted (map string_bytes c.as_slice.result.now) _ c.in-Ok.ensures.taken c.in-Ok.ensures.rows
-    ∙ sym c.settings_in.ensures ∙ c.in-None.is
+    ∙ sym c.settings_in.ensures.settings ∙ c.in-None.is
