@@ -15,6 +15,9 @@ const TWO_LINES: &str = "0 ant [c0=0,0] c0:=1,0\n1 ant [c0=1,0] c0:=2,0\n";
 const TRACE: &str =
     "0 ant [c0=0,0] c0:=1,0\n1 ant [c0=1,0] c0:=2,0\n2 ant [c0=2,0] c0:=3,0\nend 3\n";
 
+const THREE_LINES: &str =
+    "0 ant [c0=0,0] c0:=1,0\n1 ant [c0=1,0] c0:=2,0\n2 ant [c0=2,0] c0:=3,0\n";
+
 /// One byte at each call.
 const BYTES: [Cue; 400] = [Cue::Take(1); 400];
 
@@ -22,6 +25,8 @@ const BYTES: [Cue; 400] = [Cue::Take(1); 400];
 const MEMORY: u8 = 6;
 
 const WORDS: &str = "pdesmas: the words are not understood\n";
+
+const SPENT: &str = "pdesmas: the budget is spent\n";
 
 const READ_FAULT: &str = "pdesmas: the input cannot be read\n";
 
@@ -102,6 +107,120 @@ const DEVICES: [Case; 6] = [
     },
 ];
 
+/// The journal of the counter's run with epochs of five deliveries, behind its trace.
+const FIVES: &str =
+    "0 ant [c0=0,0] c0:=1,0\n1 ant [c0=1,0] c0:=2,0\n2 ant [c0=2,0] c0:=3,0\nend 3\n#j d 1 1\n#j d 0 1\n#j d 1 0\n#j d 0 1\n#j d 1 1\n#j c 1 0\n#j d 0 1\n#j d 1 0\n#j d 0 1\n#j d 1 1\n#j d 0 1\n#j c 2 0\n#j d 1 0\n#j d 0 1\n#j c end\n";
+
+/// The same with a window of one time: a Commit first, and one behind each step.
+const WINDOWED: &str =
+    "0 ant [c0=0,0] c0:=1,0\n1 ant [c0=1,0] c0:=2,0\n2 ant [c0=2,0] c0:=3,0\nend 3\n#j c 0 0\n#j d 1 1\n#j d 0 1\n#j d 1 0\n#j d 0 1\n#j c 1 0\n#j d 1 1\n#j d 0 1\n#j d 1 0\n#j d 0 1\n#j c 2 0\n#j d 1 1\n#j d 0 1\n#j d 1 0\n#j d 0 1\n#j c end\n";
+
+/// Optimistic runs: journals, budgets of deliveries, and devices that fail.
+const RUNS: [Case; 12] = [
+    Case {
+        name: "an epoch of five",
+        words: &["run", "--workers", "0", "--epoch", "5", "--journal"],
+        written: FIVES,
+        ..GOOD
+    },
+    Case {
+        name: "a window of one",
+        words: &[
+            "run",
+            "--workers",
+            "0",
+            "--window",
+            "1",
+            "--epoch",
+            "5",
+            "--journal",
+        ],
+        written: WINDOWED,
+        ..GOOD
+    },
+    Case {
+        name: "no delivery",
+        words: &["run", "--budget", "0"],
+        status: 3,
+        written: "",
+        told: SPENT,
+        ..GOOD
+    },
+    Case {
+        name: "a delivery too few",
+        words: &["run", "--budget", "11"],
+        status: 3,
+        written: TWO_LINES,
+        told: SPENT,
+        ..GOOD
+    },
+    Case {
+        name: "as many deliveries as it takes",
+        words: &["run", "--budget", "12"],
+        ..GOOD
+    },
+    Case {
+        name: "the first put of a run fails",
+        words: &["run"],
+        out: &[Cue::Fail],
+        status: 5,
+        written: "",
+        told: WRITE_FAULT,
+        ..GOOD
+    },
+    Case {
+        name: "the second put of a run fails",
+        words: &["run"],
+        out: &[Cue::All, Cue::Fail],
+        status: 5,
+        written: "0 ant [c0=0,0] c0:=1,0\n",
+        told: WRITE_FAULT,
+        ..GOOD
+    },
+    Case {
+        name: "the end line of a run fails",
+        words: &["run"],
+        out: &[Cue::All, Cue::All, Cue::All, Cue::Fail],
+        status: 5,
+        written: THREE_LINES,
+        told: WRITE_FAULT,
+        ..GOOD
+    },
+    Case {
+        name: "nothing of a run's end line is taken",
+        words: &["run"],
+        out: &[Cue::All, Cue::All, Cue::All, Cue::Take(0)],
+        status: 5,
+        written: THREE_LINES,
+        told: WRITE_FAULT,
+        ..GOOD
+    },
+    Case {
+        name: "a part of a run's first line is taken",
+        words: &["run"],
+        out: &[Cue::Take(5), Cue::Fail],
+        status: 5,
+        written: "0 ant",
+        told: WRITE_FAULT,
+        ..GOOD
+    },
+    Case {
+        name: "a run, one byte at a time",
+        words: &["run"],
+        input: &BYTES,
+        out: &BYTES,
+        ..GOOD
+    },
+    Case {
+        name: "the first line of a journal fails",
+        words: &["run", "--journal"],
+        out: &[Cue::All, Cue::All, Cue::All, Cue::All, Cue::Fail],
+        status: 5,
+        told: WRITE_FAULT,
+        ..GOOD
+    },
+];
+
 /// Words that are refused.
 const REFUSED_WORDS: [&[&str]; 20] = [
     &[],
@@ -135,6 +254,15 @@ const SEQ_WORDS: [&[&str]; 7] = [
     &["seq", "--budget", "00000000000000000007"],
     &["--journal", "seq", "--seed=18446744073709551615"],
     &["--epoch=1", "--window=1", "seq", "--from", "0"],
+];
+
+/// Words that ask for an optimistic run of it, which prints the same.
+const RUN_WORDS: [&[&str]; 5] = [
+    &["run"],
+    &["--workers=2", "run"],
+    &["run", "--epoch", "1"],
+    &["run", "--window", "50"],
+    &["--window=1", "run", "--seed=1", "--from", "0"],
 ];
 
 fn words_of(alloc: Global, words: &[&str]) -> Result<Vec<String>, AllocError> {
@@ -309,6 +437,12 @@ fn left_by(alloc: Global, words: &[&str]) -> Result<Left, AllocError> {
 }
 
 #[test]
+fn optimistic_runs(rt: HostRuntime) -> Result<(), Fail> {
+    assert_eq!(rt; other_than_told(rt.alloc(), &RUNS)?, None);
+    Ok(())
+}
+
+#[test]
 fn words_that_are_refused(rt: HostRuntime) -> Result<(), Fail> {
     for words in REFUSED_WORDS {
         let left = left_by(rt.alloc(), words)?;
@@ -320,6 +454,15 @@ fn words_that_are_refused(rt: HostRuntime) -> Result<(), Fail> {
 #[test]
 fn words_that_ask_for_the_trace(rt: HostRuntime) -> Result<(), Fail> {
     for words in SEQ_WORDS {
+        let left = left_by(rt.alloc(), words)?;
+        assert!(rt; left.is(0, TRACE, ""), "{words:?}");
+    }
+    Ok(())
+}
+
+#[test]
+fn words_that_ask_for_a_run(rt: HostRuntime) -> Result<(), Fail> {
+    for words in RUN_WORDS {
         let left = left_by(rt.alloc(), words)?;
         assert!(rt; left.is(0, TRACE, ""), "{words:?}");
     }
@@ -387,6 +530,18 @@ fn scenarios_and_what_they_print(rt: HostRuntime) -> Result<(), Fail> {
     for (name, mode, text, status, written, told) in ROWS {
         let left = run_text(rt.alloc(), mode, text)?;
         assert!(rt; left.is(*status, written, told), "{name}");
+    }
+    Ok(())
+}
+
+/// What the sequential run of a scenario prints, the optimistic one prints too.
+#[test]
+fn runs_print_the_sequential_trace(rt: HostRuntime) -> Result<(), Fail> {
+    for (name, mode, text, status, written, told) in ROWS {
+        if *mode == "seq" {
+            let left = run_text(rt.alloc(), "run", text)?;
+            assert!(rt; left.is(*status, written, told), "{name}");
+        }
     }
     Ok(())
 }

@@ -34,10 +34,11 @@ use Rattle.pm_words.specs.declared.settings.Settings.{Settings}
 -- a prefix of a first part lacks a byte of the whole, where more follows
 pub prefix-short : (old new : Option (List ℕ)) (xs ys : List ℕ) → AppendsPrefix old new xs → 0 < length ys → AppendsPart old new (xs ++ ys)
 prefix-short old new xs ys a some =
-    let whole : xs ++ ys ≡ a.0 ++ (a.1 ++ ys) = ap (λ v. v ++ ys) a.2 ∙ append_assoc a.0 a.1 ys in
-    (length a.0,
-    omega (arith, some, ap length whole, length-append a.0 (a.1 ++ ys), length-append a.1 ys),
-    rw (whole, take_at a.0 (a.1 ++ ys) (length a.0) refl) a.3)
+    let whole : xs ++ ys ≡ a.0 ++ (a.1 ++ ys) = ap (λ v. v ++ ys) a.2 ∙ append_assoc a.0 a.1 ys in (
+      length a.0,
+      omega (arith, some, ap length whole, length-append a.0 (a.1 ++ ys), length-append a.1 ys),
+      rw (whole, take_at a.0 (a.1 ++ ys) (length a.0) refl) a.3,
+    )
 
 -- a count that is below its type's end is exact
 count-is : (xs : List Entry) → length xs < 2 ^ 64 → (counted_on no_counts xs).steps ≡ length xs
@@ -71,10 +72,12 @@ module _ (s : Settings) (p : Plan) (j : List Event) (valid : IsValid p) (is : Is
       ∙ append_assoc (text_of p j) (trace_text p cut.left ++ end_line (length (sequential_run p))) (asked_lines s.journal j)
 
   behind-some : 0 < length behind
-  behind-some = omega (arith,
-      end-some (length (sequential_run p)),
-      length-append (trace_text p cut.left ++ end_line (length (sequential_run p))) (asked_lines s.journal j),
-      length-append (trace_text p cut.left) (end_line (length (sequential_run p))))
+  behind-some = omega (
+    arith,
+    end-some (length (sequential_run p)),
+    length-append (trace_text p cut.left ++ end_line (length (sequential_run p))) (asked_lines s.journal j),
+    length-append (trace_text p cut.left) (end_line (length (sequential_run p))),
+  )
 
   short : (old new : Option (List ℕ)) → AppendsPrefix old new (text_of p j) → AppendsPart old new (run_output s.journal p j)
   short old new a = rw output-is (prefix-short old new (text_of p j) behind a behind-some)

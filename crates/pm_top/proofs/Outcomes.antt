@@ -2,6 +2,7 @@
 use Rattle.std.proofs.Common.{◌≡◌, ◌≢◌, refl}
 use Rattle.pm_kernel.specs.declared.ran.Outcome.{Outcome}
 use Rattle.pm_kernel.specs.declared.ran.Outcome.TheVariants as outcome
+use Rattle.pm_scenario.specs.declared.fault.ScenarioFault.{ScenarioFault}
 use Rattle.pm_top.specs.Endings.{ending_of}
 use Rattle.pm_top.specs.Headline.{EndsRun}
 use Rattle.pm_top.specs.declared.outcome.Ending.{Ending}
@@ -30,6 +31,12 @@ not-done outcome.Done h = λ _. h refl
 not-done outcome.BudgetSpent h = λ e. cc e
 not-done outcome.WriteFault h = λ e. cc e
 not-done outcome.Memory h = λ e. cc e
+
+pub not-refused : (o : Outcome) (f : ScenarioFault) → ending_of o ≢ ending.Refused f
+not-refused outcome.Done f = λ e. cc e
+not-refused outcome.BudgetSpent f = λ e. cc e
+not-refused outcome.WriteFault f = λ e. cc e
+not-refused outcome.Memory f = λ e. cc e
 
 -- a run's ending begins with the whole input
 pub of-run : (o : Outcome) → EndsRun (ending_of o)

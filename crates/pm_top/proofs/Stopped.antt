@@ -21,6 +21,15 @@ pub kept : {P : List ℕ → Type 0} (held : Option (List ℕ)) → ((b : List �
 kept None h = tt
 kept (Some b) h = h b
 
+-- the first and the second of two facts
+pub firsts : {P : List ℕ → Type 0} {A B : Type 0} (held : Option (List ℕ)) → IfSome held (λ b. P b → A × B) → IfSome held (λ b. P b → A)
+firsts None h = tt
+firsts (Some b) h = λ x. (h x).0
+
+pub seconds : {P : List ℕ → Type 0} {A B : Type 0} (held : Option (List ℕ)) → IfSome held (λ b. P b → A × B) → IfSome held (λ b. P b → B)
+seconds None h = tt
+seconds (Some b) h = λ x. (h x).1
+
 -- a call that touches neither input nor out
 abbrev pub stopped : Option Settings → Ending → SourceSight → SinkSight → SinkSight → SinkSight → Call
 stopped s e i o before after = record {

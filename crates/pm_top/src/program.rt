@@ -1,7 +1,6 @@
 ghost use Rattle.std.specs.Prelude.{◌≡◌, ◌≢◌, ◌⊎◌, ◌≤◌, [], Some, None, IfSome, Ok, Err, length, map, string_bytes};
 ghost use Rattle.std.specs.Io.KnownBytes.{IsAtEnd};
 ghost use Rattle.pm_io.specs.Causes.{Rose};
-ghost use Rattle.pm_kernel.specs.declared.ran.Outcome.{Outcome as TheOutcome};
 ghost use Rattle.pm_plan.specs.Plans.{IsValid};
 ghost use Rattle.pm_plan.specs.declared.plan.Plan.{Plan as ThePlan};
 ghost use Rattle.pm_scenario.specs.Scenarios.{plan_of};
@@ -81,7 +80,8 @@ fn write_output<K: Sink>(
     requires range { IsInRange settings.now.run }
     ensures printed { PrintedIn mode settings.now plan.now result.ending result.journal
         (K.holds out.old) (K.holds out.new) }
-    ensures ran { (o : TheOutcome) × (result.ending ≡ ending_of o) }
+    ensures ran { EndsRun result.ending }
+    ensures plan { (f : TheFault) → result.ending ≢ Ending.Refused f }
     ensures cause { result.ending ≡ Ending.WriteFault → Rose (K.faults out.old) (K.faults out.new)
         ⊎ Rose (K.stalls out.old) (K.stalls out.new) }
     ensures budget { result.ending ≡ Ending.BudgetSpent → mode ≢ Mode.Check }
