@@ -1,5 +1,5 @@
 -- What was written of an optimistic run, by its outcome.
-use Rattle.std.proofs.Common.{◌≡◌, ◌≢◌, ◌⊎◌, ◌∙◌, ap, sym, subst, refl, inl, inr, ℕ, ◌+◌, ◌-◌, ◌^◌, ◌<◌, ◌≤◌, List, [], ◌∷◌, ◌++◌, length, length-append, append_assoc, append-nil, Bool, Option, None, Some, IfSome, arith}
+use Rattle.std.proofs.Common.{◌≡◌, ◌≢◌, ◌⊎◌, ◌∙◌, ap, sym, subst, refl, inl, inr, ℕ, ◌+◌, ◌-◌, ◌^◌, ◌<◌, ◌≤◌, List, [], ◌∷◌, ◌++◌, length, length-append, append_assoc, Bool, Option, None, Some, IfSome, arith}
 use Rattle.std.proofs.Math.Nat.{min-eq_left}
 use Rattle.std.proofs.lemmas.Grind.{flat_map-append}
 use Rattle.std.proofs.lemmas.List.{take_at}
@@ -24,7 +24,7 @@ use Rattle.pm_plan.specs.declared.plan.Plan.{Plan}
 use Rattle.pm_sim.proofs.Kernel.{journal_law}
 use Rattle.pm_sim.specs.Journals.{JournalLaw, made}
 use Rattle.pm_sim.specs.Worlds.{committed}
-use Rattle.pm_top.proofs.Written.{end-some, part-within}
+use Rattle.pm_top.proofs.Written.{end-some, part-after}
 use Rattle.pm_top.specs.Endings.{ending_of}
 use Rattle.pm_top.specs.Outputs.{asked_lines, run_output}
 use Rattle.pm_top.specs.Printed.{IsRunPrinted, StaysCommitted}
@@ -65,6 +65,7 @@ module _ (s : Settings) (p : Plan) (j : List Event) (valid : IsValid p) (is : Is
   behind = (trace_text p cut.left ++ end_line (length (sequential_run p))) ++ asked_lines s.journal j
 
   output-is : run_output s.journal p j ≡ text_of p j ++ behind
+  unfolding behind
   output-is =
       ap (λ es. (trace_text p es ++ end_line (length (sequential_run p))) ++ asked_lines s.journal j) parts
       ∙ ap (λ v. (v ++ end_line (length (sequential_run p))) ++ asked_lines s.journal j) (flat_map-append (line p) (committed p j) cut.left)
@@ -72,6 +73,7 @@ module _ (s : Settings) (p : Plan) (j : List Event) (valid : IsValid p) (is : Is
       ∙ append_assoc (text_of p j) (trace_text p cut.left ++ end_line (length (sequential_run p))) (asked_lines s.journal j)
 
   behind-some : 0 < length behind
+  unfolding behind
   behind-some = omega (
     arith,
     end-some (length (sequential_run p)),
@@ -150,9 +152,7 @@ module _ (s : Settings) (p : Plan) (j : List Event) (valid : IsValid p) (is : Is
     whole a = rw (end-is c done count) (appends-append old now new (text_of p j) (end_line c.steps ++ asked_lines s.journal j) grew a)
 
     lacking : AppendsPart now new (end_line c.steps ++ asked_lines s.journal j) → AppendsPart old new (run_output s.journal p j)
-    lacking a =
-        rw (end-is c done count) (rw (append-nil (end_line c.steps ++ asked_lines s.journal j)) at
-        (part-within old now new (text_of p j) (end_line c.steps ++ asked_lines s.journal j) [] grew a))
+    lacking a = rw (end-is c done count) (part-after old now new (text_of p j) (end_line c.steps ++ asked_lines s.journal j) grew a)
 
     pub ran-done : (o : Outcome) → o ≢ outcome.BudgetSpent
         → (o ≡ outcome.Done → Appends now new (end_line c.steps ++ asked_lines s.journal j))

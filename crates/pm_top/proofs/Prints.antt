@@ -1,9 +1,11 @@
 -- What is printed of a scenario that the input held.
-use Rattle.std.proofs.Common.{◌≡◌, ◌≢◌, refl, inl, ℕ, ◌≤◌, List, [], ◌∷◌, ◌++◌, length, Option, Some, None, IfSome, Result, Ok, Err, IfOk, sym, ap, subst, true, false, arith, length-append}
+use Rattle.std.proofs.Common.{◌≡◌, ◌≢◌, refl, inl, ℕ, ◌≤◌, List, [], ◌∷◌, ◌++◌, length, if◌then◌else◌, Option, Some, None, IfSome, Result, Ok, Err, IfOk, sym, ap, subst, ◌∙◌, true, false, arith, length-append}
+use Rattle.std.proofs.lemmas.Bool.Decides.{nat_tests}
 use Rattle.std.specs.List.{filter}
 use Rattle.pm_base.specs.Stamps.{is_below}
 use Rattle.pm_base.specs.declared.rows.Entry.{Entry}
 use Rattle.pm_base.specs.declared.run.Event.{Event}
+use Rattle.pm_base.specs.declared.stamp.Stamp.{Stamp}
 use Rattle.pm_base.specs.declared.run.RunSettings.{RunSettings}
 use Rattle.pm_io.specs.Causes.{AppendsPart, AppendsPrefix}
 use Rattle.pm_io.proofs.Known.{prefix-none, consumes-all}
@@ -61,9 +63,12 @@ journal-none p s = record {
 }
 
 -- it commits what is below the first line: nothing
+none-first : (s : Stamp) → is_below s zero_line ≡ false
+none-first s = grind (arith, nat_tests)
+
 below-first : (es : List Entry) → filter (λ (e : Entry). is_below e.stamp zero_line) es ≡ []
 below-first [] = refl
-below-first (e ∷ es) = simp (below-first es)
+below-first (e ∷ es) = ap (λ b. if b then e ∷ filter (λ (x : Entry). is_below x.stamp zero_line) es else filter (λ (x : Entry). is_below x.stamp zero_line) es) (none-first e.stamp) ∙ below-first es
 
 run-below-first : (p : Plan) → [] ≡ run_below p (first_world p).line
 unfolding run_below

@@ -22,13 +22,13 @@ kept None h = tt
 kept (Some b) h = h b
 
 -- the first and the second of two facts
-pub firsts : {P : List ℕ → Type 0} {A B : Type 0} (held : Option (List ℕ)) → IfSome held (λ b. P b → A × B) → IfSome held (λ b. P b → A)
-firsts None h = tt
-firsts (Some b) h = λ x. (h x).0
+pub firsts : (P : List ℕ → Type 0) (A B : Type 0) (held : Option (List ℕ)) → IfSome held (λ b. P b → A × B) → IfSome held (λ b. P b → A)
+firsts P A B None h = tt
+firsts P A B (Some b) h = λ x. (h x).0
 
-pub seconds : {P : List ℕ → Type 0} {A B : Type 0} (held : Option (List ℕ)) → IfSome held (λ b. P b → A × B) → IfSome held (λ b. P b → B)
-seconds None h = tt
-seconds (Some b) h = λ x. (h x).1
+pub seconds : (P : List ℕ → Type 0) (A B : Type 0) (held : Option (List ℕ)) → IfSome held (λ b. P b → A × B) → IfSome held (λ b. P b → B)
+seconds P A B None h = tt
+seconds P A B (Some b) h = λ x. (h x).1
 
 -- a call that touches neither input nor out
 abbrev pub stopped : Option Settings → Ending → SourceSight → SinkSight → SinkSight → SinkSight → Call

@@ -69,6 +69,15 @@ part-within old now new xs ys zs a p = (
   rw (take-over xs ys zs p.0 p.1) (appends-append old now new xs (take p.0 ys) a p.2),
 )
 
+-- the same of a last part
+pub part-after : (old now new : Option (List ℕ)) (xs ys : List ℕ) → Appends old now xs → AppendsPart now new ys → AppendsPart old new (xs ++ ys)
+part-after old now new xs ys a p = rw (append-nil ys) at (part-within old now new xs ys [] a p)
+
+-- and of a first part
+pub part-more : (old new : Option (List ℕ)) (xs ys : List ℕ) → AppendsPart old new xs → AppendsPart old new (xs ++ ys)
+part-more old new xs ys p =
+    (p.0, omega (arith, p.1, length-append xs ys), rw (take-append-le p.0 xs ys (omega (arith, p.1))) p.2)
+
 -- all of a first part lacks a byte of the whole, where more follows
 part-first : (old now : Option (List ℕ)) (xs ys : List ℕ) → Appends old now xs → 0 < length ys → AppendsPart old now (xs ++ ys)
 part-first old now xs ys a some =

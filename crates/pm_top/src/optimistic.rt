@@ -20,9 +20,9 @@ use pm_words::Settings;
 use std::alloc::Global;
 
 /// Writes the line of an event.
-fn write_event<K: Sink>(alloc: Global, event: Event, out: &mut K) -> Outcome
-    ensures done { result ≡ Outcome.Done → Appends (K.holds out.old) (K.holds out.new) (event_line event) }
-    ensures unfinished { result ≢ Outcome.Done → AppendsPart (K.holds out.old) (K.holds out.new) (event_line event) }
+fn write_event<K: Sink>(alloc: Global, event: &Event, out: &mut K) -> Outcome
+    ensures done { result ≡ Outcome.Done → Appends (K.holds out.old) (K.holds out.new) (event_line event.now) }
+    ensures unfinished { result ≢ Outcome.Done → AppendsPart (K.holds out.old) (K.holds out.new) (event_line event.now) }
     ensures cause { result ≡ Outcome.WriteFault → Rose (K.faults out.old) (K.faults out.new)
         ⊎ Rose (K.stalls out.old) (K.stalls out.new) }
     ensures wrote { result ≢ Outcome.BudgetSpent }
@@ -30,7 +30,7 @@ fn write_event<K: Sink>(alloc: Global, event: Event, out: &mut K) -> Outcome
     ensures stalls { K.stalls out.old ≤ K.stalls out.new }
 {
     let mut journal = List::new(alloc);
-    if journal.push(event).is_err() {
+    if journal.push(*event).is_err() {
         return Outcome::Memory;
     }
     let bytes = match print(alloc, &journal) {
@@ -55,7 +55,7 @@ fn write_events<K: Sink>(alloc: Global, events: &[Event], out: &mut K) -> Outcom
     ensures stalls { K.stalls out.old ≤ K.stalls out.new }
 {
     for event in events {
-        match write_event(alloc, *event, out) {
+        match write_event(alloc, event, out) {
             Outcome::Done => {}
             stopped => return stopped,
         }

@@ -1,4 +1,4 @@
-use Rattle.std.proofs.Common.{◌≡◌, ◌∙◌, ◌×◌, [], ap, Some, inl, inr, refl, subst}
+use Rattle.std.proofs.Common.{◌≡◌, ◌∙◌, [], ap, Some, inl, inr, refl, subst}
 use Rattle.pm_scenario.specs.Scenarios.{plan_of}
 use Rattle.pm_top.specs.Headline.{EndsRun, IsAccepted, IsRefused, IsUnfit}
 use Rattle.pm_top.specs.Printed.{PrintedOf}

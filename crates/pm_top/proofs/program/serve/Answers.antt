@@ -1,6 +1,7 @@
 use Rattle.std.proofs.Common.{◌≡◌, ◌∙◌, refl, sym, map, string_bytes, Option, Some, None}
 use Rattle.pm_top.proofs.Complete.{completes, limits, refuses, within, Told}
 use Rattle.pm_top.proofs.Stopped.{firsts, kept, memory-served, seconds, words-served}
+use Rattle.pm_top.specs.Headline.{IsUnfit}
 use Rattle.pm_top.specs.declared.outcome.Ending.TheVariants as ending
 use Rattle.pm_words.specs.Words.{settings_of}
 use Rattle.pm_words.specs.declared.settings.Settings.{Settings}
@@ -26,8 +27,8 @@ returns-clause-untouched g c = λ none. absurd (some-none c.in-Ok.settings (sym 
 
 pub returns-clause-served : goal.returns-clause-served
 returns-clause-served g c =
-    let run = c.run_mode.ensures in
-    let e = c.run_mode.result.ending in
+    let run = c.run_mode-worked.ensures in
+    let e = c.run_mode-worked.result.ending in
     let s = c.in-Ok.settings in
     let held = g.S.Source.held c.args.input.now in
     let named : settings_of (map string_bytes c.args.words.now.items) ≡ Some s = c.in-Ok.ensures.ok in
@@ -37,7 +38,7 @@ returns-clause-served g c =
       journal = record {
         runs = run.journal;
         nothing = λ h. (run.nothing h).0;
-        unfit = firsts held run.unfit;
+        unfit = firsts IsUnfit _ _ held run.unfit;
       };
       caused = record {
         words = λ h. absurd (run.words h);
@@ -60,10 +61,10 @@ returns-clause-served g c =
     })
 
 pub returns-clause-nothing : goal.returns-clause-nothing
-returns-clause-nothing g c = λ h. (c.run_mode.ensures.nothing (rw c.report_of-2.ensures.ending at h)).1
+returns-clause-nothing g c = λ h. (c.run_mode-worked.ensures.nothing (rw c.report_of-2.ensures.ending at h)).1
 
 pub returns-clause-unfit : goal.returns-clause-unfit
-returns-clause-unfit g c = seconds (g.S.Source.held c.args.input.now) c.run_mode.ensures.unfit
+returns-clause-unfit g c = seconds IsUnfit _ _ (g.S.Source.held c.args.input.now) c.run_mode-worked.ensures.unfit
 
 pub returns-in-Err-Words-clause-unfit : goal.returns-in-Err-Words-clause-unfit
 returns-in-Err-Words-clause-unfit g c = kept (g.S.Source.held c.args.input.now) (λ b unfit. refl)
