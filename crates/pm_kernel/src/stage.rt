@@ -15,7 +15,7 @@ ghost use Rattle.pm_sim.specs.Worlds.{handed, least_line, mail, may_commit};
 use crate::course::Course;
 use crate::window::window_of;
 use crate::writing::{Counts, Wrote, write_entries};
-use pm_base::{Entry, Event, Line, List, Memory, RunSettings};
+use pm_base::{Entry, Event, List, Memory, RunSettings};
 use pm_io::Sink;
 use pm_plan::Plan;
 use std::alloc::Global;
