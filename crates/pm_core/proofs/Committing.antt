@@ -24,7 +24,7 @@ use Rattle.pm_alp.specs.Views.{Process as AlpView}
 use Rattle.pm_core.specs.Commits.{alp_at, clp_at, handed_by}
 use Rattle.pm_core.specs.Mails.{links_of}
 use Rattle.pm_core.specs.Views.{IsAlpOf, IsClpOf, Stands, world_of}
-use Rattle.pm_core.specs.declared.processes.Processes.{Processes}
+use Rattle.pm_core.specs.declared.arrivals.Processes.{Processes}
 use Rattle.pm_core.proofs.Delivering.{made_same, found_low}
 use Rattle.pm_core.proofs.Handing.{handed_agents}
 use Rattle.pm_core.proofs.Ordering.{placed_once, placed_same, rest_in_order}

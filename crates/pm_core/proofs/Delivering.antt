@@ -41,7 +41,7 @@ use Rattle.pm_core.specs.Mails.{links_of}
 use Rattle.pm_core.specs.Steps.{AlpDid, Arrived, CanArrive, ClpDid}
 use Rattle.pm_core.specs.Views.{IsAlpOf, IsClpOf, IsWorld, Stands, WorldView, world_of}
 use Rattle.pm_core.specs.Views.{delivered as after_delivery}
-use Rattle.pm_core.specs.declared.processes.Processes.{Processes}
+use Rattle.pm_core.specs.declared.arrivals.Processes.{Processes}
 use Rattle.pm_core.proofs.Carries.{first_mailed, posted_links, taken_link, told_links, took}
 
 -- ---- numbers

@@ -27,7 +27,7 @@ use Rattle.pm_sim.proofs.ReachedWorlds.{reached_on}
 use Rattle.pm_core.specs.Firsts.{first_alp, first_alps, first_clp, first_clps}
 use Rattle.pm_core.specs.Mails.{first_mail, link_of, links_of, opened_agent, opened_agents, opened_all, opened_tree, wake_at, woken}
 use Rattle.pm_core.specs.Views.{IsClpOf, IsWorld, first_view, world_of}
-use Rattle.pm_core.specs.declared.processes.Processes.{Processes}
+use Rattle.pm_core.specs.declared.arrivals.Processes.{Processes}
 use Rattle.pm_core.proofs.Delivering.{made_same, view}
 use Rattle.pm_core.proofs.LinkLaws.{Rises, edges_in, edges_rise}
 

@@ -7,4 +7,5 @@ pub mod LinkLaws
 pub mod Loops
 pub mod Ordering
 pub mod Picking
+pub mod Playing
 pub mod Posting

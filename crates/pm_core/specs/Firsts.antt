@@ -1,11 +1,15 @@
 -- The processes of a plan at first.
-use Rattle.std.specs.Prelude.{ℕ, zero, suc, ◌^◌, false, List, [], ◌∷◌}
-use Rattle.pm_clp.specs.Views.{ClpView}
-use Rattle.pm_plan.specs.declared.plan.AgentRow.{AgentRow}
-use Rattle.pm_plan.specs.declared.plan.Plan.{Plan}
-use Rattle.pm_sim.specs.Worlds.{clp_first, first_actor, hub_of, rule_of}
+use Rattle.std.specs.Prelude.{ℕ, zero, suc, ◌^◌, false, List, [], ◌∷◌, ◌++◌, map, Option}
 use Rattle.pm_alp.specs.States.{Fixed}
 use Rattle.pm_alp.specs.Views.{Process as AlpView}
+use Rattle.pm_clp.specs.Views.{ClpView}
+use Rattle.pm_message.specs.declared.Message.{Message}
+use Rattle.pm_plan.specs.declared.plan.AgentRow.{AgentRow}
+use Rattle.pm_plan.specs.declared.plan.Plan.{Plan}
+use Rattle.pm_sim.specs.Worlds.{clp_first, clps_of, first_actor, hub_of, rule_of}
+use Rattle.pm_core.specs.Mails.{wake_at}
+use Rattle.pm_core.specs.declared.process.Process.{Process}
+use Rattle.pm_core.specs.declared.process.Process.TheVariants as process
 
 -- a communication process at first: its place in the plan, its first state, and no delivery
 abbrev pub first_clp : Plan → ℕ → ClpView
@@ -28,3 +32,12 @@ first_alp p i a = record { fixed = fixed_at p i a; agent = first_actor p i a; ma
 abbrev pub first_alps : Plan → ℕ → List AgentRow → List AlpView
 first_alps p i [] = []
 first_alps p i (a ∷ more) = first_alp p i a ∷ first_alps p (suc i) more
+
+-- the agents' first Wakes: none where an agent starts past the horizon
+abbrev pub first_wakes : List AlpView → List (Option Message)
+first_wakes alps = map (λ (a : AlpView). wake_at a.agent.awaited) alps
+
+-- all processes at first, in order of number
+abbrev pub first_processes : Plan → List Process
+first_processes p =
+    map process.Clp (first_clps p 0 (clps_of p)) ++ map process.Alp (first_alps p 0 p.agents)

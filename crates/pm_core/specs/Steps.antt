@@ -9,7 +9,7 @@ use Rattle.pm_sim.specs.Worlds.{clps_of, home}
 use Rattle.pm_alp.specs.Views.{delivered, sent_by}
 use Rattle.pm_alp.specs.Views.{Process as AlpView}
 use Rattle.pm_core.specs.Mails.{posted_all, told_all}
-use Rattle.pm_core.specs.declared.processes.Processes.{Processes}
+use Rattle.pm_core.specs.declared.arrivals.Processes.{Processes}
 
 -- a communication process that takes this message from that process
 pub record Takes (v : ClpView) (from : ℕ) (m : Message) : Type 0 where

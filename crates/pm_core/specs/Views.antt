@@ -1,6 +1,8 @@
 -- What contracts see of a world.
-use Rattle.std.specs.Prelude.{ℕ, suc, ◌+◌, ◌≤◌, ◌≡◌, Bool, false, List, map, sum_by, Some, slice_get}
+use Rattle.std.specs.Prelude.{ℕ, suc, ◌+◌, ◌≤◌, ◌≡◌, Bool, false, List, map, sum_by, Some, slice_get, Option, None, take}
 use Rattle.std.specs.List.{list_any}
+use Rattle.pm_base.specs.declared.rows.Entry.{Entry}
+use Rattle.pm_base.specs.declared.run.Event.{Event}
 use Rattle.pm_base.specs.declared.stamp.Line.{Line}
 use Rattle.pm_base.specs.declared.run.Event.TheVariants as event
 use Rattle.pm_clp.specs.Views.{ClpView}
@@ -8,12 +10,14 @@ use Rattle.pm_mail.specs.Links.{Link as Lane}
 use Rattle.pm_plan.specs.Plans.{IsValid}
 use Rattle.pm_plan.specs.declared.plan.AgentRow.{AgentRow}
 use Rattle.pm_plan.specs.declared.plan.Plan.{Plan}
+use Rattle.pm_sim.specs.Journals.{made}
+use Rattle.pm_sim.specs.Played.{play}
 use Rattle.pm_sim.specs.Reached.{Reached}
 use Rattle.pm_sim.specs.Worlds.{World, after_event, commit, first_world, hub_of, is_legal, is_link, process}
 use Rattle.pm_alp.specs.Views.{Process as AlpView}
 use Rattle.pm_core.specs.Firsts.{fixed_at}
 use Rattle.pm_core.specs.Mails.{links_of}
-use Rattle.pm_core.specs.declared.processes.Processes.{Processes}
+use Rattle.pm_core.specs.declared.arrivals.Processes.{Processes}
 
 -- the plan, the world that it has come to, how many deliveries were made, and whether memory was wanting in one
 pub record WorldView : Type 0 where
@@ -79,3 +83,20 @@ pub record Stands (s : Processes) (w : World) (n : ℕ) : Type 0 where
 pub record IsWorld (s : Processes) (w : World) (n : ℕ) (spoilt : Bool) : Type 0 where
   pub valid : IsValid s.plan.now
   pub stands : spoilt ≡ false → Stands s w n
+
+-- the world after an event
+abbrev pub happened : WorldView → Event → WorldView
+happened v (event.Deliver to from) = delivered v to from
+happened v (event.Commit l) = committed v l
+
+-- of these events, those that were done where one wasn't legal after so many
+abbrev pub done_of : Option ℕ → List Event → List Event
+done_of None es = es
+done_of (Some n) es = take n es
+
+-- playing these events came to this world, with these entries, and stopped there; the deliveries that were made count
+pub record PlayedWell (old new : WorldView) (es : List Event) (entries : List Entry) (stopped : Option ℕ) : Type 0 where
+  pub plan : new.plan ≡ old.plan
+  pub played : record { world = new.world; entries = entries; stopped = stopped } ≡ play old.plan old.world es
+  pub made : new.made ≡ old.made + made (done_of stopped es)
+  pub spoilt : new.spoilt ≡ old.spoilt

@@ -3,10 +3,12 @@ ghost use Rattle.std.specs.Prelude.{◌≡◌, ◌<◌, ◌++◌, ◌∷◌, [],
 ghost use Rattle.pm_plan.specs.Plans.{IsValid};
 ghost use Rattle.pm_plan.specs.declared.plan.VarRow.{VarRow as TheVar};
 ghost use Rattle.pm_sim.specs.Worlds.{clps_of, first_way};
-ghost use Rattle.pm_core.specs.Firsts.{first_alp, first_alps, first_clp, first_clps};
+ghost use Rattle.pm_core.specs.Firsts.{first_alp, first_alps, first_clp, first_clps, first_processes, first_wakes};
+ghost use Rattle.pm_core.specs.declared.process.Process.TheVariants as process;
 ghost use Rattle.pm_core.specs.Mails.{opened_agents, wake_at};
 
 use crate::posts::open_agent;
+use crate::process::Process;
 use crate::tree::{ports, to_agents};
 use pm_alp::{Alp, AlpParts};
 use pm_base::{Layout, List, Memory, Value};
@@ -136,4 +138,59 @@ pub fn first_alps<'a>(
         open_agent(alloc, mail, plan, agent, wake)?;
     }
     Ok(all)
+}
+
+// Agents' processes at first, with their first Wakes.
+fn alps_and_wakes<'a>(
+    alloc: Global,
+    plan: &'a Plan,
+    wakes: &mut List<Option<Message>>,
+) -> Result<Vec<Alp<'a>>, Memory>
+    requires { IsValid plan.now }
+    ensures processes { IfOk result (λ all. all.items ≡ first_alps plan.now 0 plan.now.agents) }
+    ensures wakes { OnOk result (wakes.new ≡
+        wakes.old ++ first_wakes (first_alps plan.now 0 plan.now.agents)) }
+{
+    let mut all = Vec::new(alloc);
+    for (i, row) in plan.agents.as_slice().iter().enumerate() {
+        let wake = add_alp(alloc, plan, i as u32, row, &mut all)?;
+        wakes.push(wake)?;
+    }
+    Ok(all)
+}
+
+fn add_clps<'a>(all: &mut List<Process<'a>>, clps: Vec<Clp>) -> Result<(), Memory>
+    ensures { OnOk result (all.new ≡ all.old ++ map process.Clp clps.items) }
+{
+    for clp in clps {
+        all.push(Process::Clp(clp))?;
+    }
+    Ok(())
+}
+
+fn add_alps<'a>(all: &mut List<Process<'a>>, alps: Vec<Alp<'a>>) -> Result<(), Memory>
+    ensures { OnOk result (all.new ≡ all.old ++ map process.Alp alps.entry.items) }
+{
+    for alp in alps {
+        all.push(Process::Alp(alp))?;
+    }
+    Ok(())
+}
+
+/// All processes of a plan at first, in order of number, and the agents' first Wakes: none exactly where an agent starts
+/// past the horizon.
+pub fn processes<'a>(
+    alloc: Global,
+    plan: &'a Plan,
+) -> Result<(List<Process<'a>>, List<Option<Message>>), Memory>
+    requires { IsValid plan.now }
+    ensures processes { IfOk result (λ r. r.0 ≡ first_processes plan.now) }
+    ensures wakes { IfOk result (λ r. r.1 ≡ first_wakes (first_alps plan.now 0 plan.now.agents)) }
+{
+    let mut all = List::new(alloc);
+    let mut wakes = List::new(alloc);
+    add_clps(&mut all, first_clps(alloc, plan)?)?;
+    let alps = alps_and_wakes(alloc, plan, &mut wakes)?;
+    add_alps(&mut all, alps)?;
+    Ok((all, wakes))
 }

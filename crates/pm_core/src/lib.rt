@@ -2,16 +2,21 @@
 //! is committed.
 #![tactic(auto)]
 
+mod arrivals;
 mod commits;
 mod firsts;
 mod laws;
 mod plan_links;
+mod play;
 mod posts;
-mod processes;
+mod process;
 mod tree;
 mod world;
 
+pub use firsts::processes;
 pub use laws::{links_are_the_worlds, rows_of_links};
 pub use plan_links::links;
+pub use play::Played;
+pub use process::Process;
 pub use tree::{ports, to_agents};
 pub use world::World;

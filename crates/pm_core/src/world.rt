@@ -9,10 +9,10 @@ ghost use Rattle.pm_trace.specs.Merges.{StandsOnce};
 mod ahead;
 mod picks;
 
+use crate::arrivals::Processes;
 use crate::commits::{commit_alps, commit_clps, count_ready};
 use crate::firsts::{first_alps, first_clps};
 use crate::posts::open_tree;
-use crate::processes::Processes;
 use pm_base::{Entry, Line, List, Memory, Stamp};
 use pm_mail::Mail;
 use pm_plan::Plan;
@@ -176,5 +176,12 @@ impl<'a> World<'a> {
         commit_alps(&mut self.processes.alps, line, &mut entries);
         self.line = line;
         Ok(in_stamp_order(entries))
+    }
+
+    /// The world is spoilt: every later delivery and Commit answers `Memory`.
+    pub(crate) fn spoil(&mut self)
+        ensures { self.new ≡ record self.old { spoilt = true } }
+    {
+        self.spoilt = true;
     }
 }

@@ -7,7 +7,7 @@ use Rattle.pm_sim.specs.Worlds.{commit, handed, may_commit}
 use Rattle.pm_trace.specs.Merges.{StandsOnce}
 use Rattle.pm_core.specs.Commits.{handed_by}
 use Rattle.pm_core.specs.Views.{WorldView, committed, world_of}
-use Rattle.pm_core.specs.declared.processes.Processes.{Processes}
+use Rattle.pm_core.specs.declared.arrivals.Processes.{Processes}
 use Rattle.pm_core.proofs.Committing.{commit_stands, commit_world, handed_once, handed_same, sequential, steps_few}
 use Rattle.pm_core.proofs.Delivering.{alps_all, view_same}
 use Rattle.pm_core.proofs.world.World.commit.Goals as goal

@@ -2,7 +2,7 @@ use Rattle.std.proofs.Common.{◌≡◌, ◌∙◌, ap}
 use Rattle.pm_plan.proofs.Valid.{valid_limits}
 use Rattle.pm_sim.specs.Worlds.{clps_of}
 use Rattle.pm_core.specs.Mails.{first_mail, opened_agents, opened_tree}
-use Rattle.pm_core.specs.declared.processes.Processes.{Processes}
+use Rattle.pm_core.specs.declared.arrivals.Processes.{Processes}
 use Rattle.pm_core.proofs.FirstLaws.{is_first, view_first}
 use Rattle.pm_core.proofs.world.World.first.Goals as goal
 

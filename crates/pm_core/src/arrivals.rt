@@ -1,4 +1,4 @@
-//! The processes of a plan.
+//! Messages that arrive at processes.
 ghost use Rattle.std.specs.Prelude.{◌≡◌, ◌≤◌, ◌<◌, ◌+◌, ◌^◌, OnOk, Some, length, slice_get};
 ghost use Rattle.pm_clp.specs.Views.{ClpView};
 ghost use Rattle.pm_sim.specs.Worlds.{clps_of};
