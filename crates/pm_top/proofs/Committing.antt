@@ -1,23 +1,22 @@
 -- What was written of an optimistic run, by its outcome.
-use Rattle.std.proofs.Common.{◌≡◌, ◌≢◌, ◌⊎◌, ◌∙◌, ap, sym, subst, refl, inl, inr, ℕ, ◌+◌, ◌-◌, ◌^◌, ◌<◌, ◌≤◌, List, [], ◌∷◌, ◌++◌, length, length-append, append_assoc, Bool, Option, None, Some, IfSome, arith}
+use Rattle.std.proofs.Common.{◌≡◌, ◌≢◌, ◌⊎◌, ◌∙◌, ap, sym, subst, refl, inl, inr, ℕ, ◌+◌, ◌-◌, ◌^◌, ◌<◌, List, ◌++◌, length, length-append, append_assoc, Option, arith}
 use Rattle.std.proofs.Math.Nat.{min-eq_left}
 use Rattle.std.proofs.lemmas.Grind.{flat_map-append}
 use Rattle.std.proofs.lemmas.List.{take_at}
 use Rattle.std.specs.Io.KnownBytes.{Appends}
 use Rattle.pm_base.specs.declared.rows.Entry.{Entry}
 use Rattle.pm_base.specs.declared.run.Event.{Event}
-use Rattle.pm_base.specs.declared.run.RunSettings.{RunSettings}
 use Rattle.pm_io.specs.Causes.{AppendsPart, AppendsPrefix}
-use Rattle.pm_io.proofs.Known.{appends-append, prefix-after, prefix-all, prefix-none, prefix-part}
+use Rattle.pm_io.proofs.Known.{appends-append, prefix-all, prefix-part}
 use Rattle.pm_kernel.specs.Counts.{counted, counted_on, no_counts}
 use Rattle.pm_kernel.specs.declared.writing.Counts.{Counts}
 use Rattle.pm_kernel.specs.Runs.{IsDone, IsJournal, IsSpent, left_by, text_of}
 use Rattle.pm_kernel.specs.declared.ran.Outcome.{Outcome}
 use Rattle.pm_kernel.specs.declared.ran.Outcome.TheVariants as outcome
 use Rattle.pm_model.proofs.Below.{run-cut, run-short}
-use Rattle.pm_model.specs.Entries.{IsCutAt, run_below}
+use Rattle.pm_model.specs.Entries.{IsCutAt}
 use Rattle.pm_model.specs.Runs.{sequential_run}
-use Rattle.pm_model.specs.Traces.{end_line, line, trace, trace_text}
+use Rattle.pm_model.specs.Traces.{end_line, line, trace_text}
 use Rattle.pm_plan.proofs.Valid.{valid_limits}
 use Rattle.pm_plan.specs.Plans.{IsValid}
 use Rattle.pm_plan.specs.declared.plan.Plan.{Plan}

@@ -5,7 +5,6 @@ use Rattle.pm_kernel.specs.declared.ran.Outcome.TheVariants as outcome
 use Rattle.pm_scenario.specs.declared.fault.ScenarioFault.{ScenarioFault}
 use Rattle.pm_top.specs.Endings.{ending_of}
 use Rattle.pm_top.specs.Headline.{EndsRun}
-use Rattle.pm_top.specs.declared.outcome.Ending.{Ending}
 use Rattle.pm_top.specs.declared.outcome.Ending.TheVariants as ending
 
 pub of-done : (o : Outcome) → ending_of o ≡ ending.Done → o ≡ outcome.Done

@@ -1,5 +1,5 @@
 -- What is printed of a scenario that the input held.
-use Rattle.std.proofs.Common.{◌≡◌, ◌≢◌, refl, inl, ℕ, ◌≤◌, List, [], ◌∷◌, ◌++◌, length, if◌then◌else◌, Option, Some, None, IfSome, Result, Ok, Err, IfOk, sym, ap, subst, ◌∙◌, true, false, arith, length-append}
+use Rattle.std.proofs.Common.{◌≡◌, ◌≢◌, refl, inl, ℕ, ◌≤◌, List, [], ◌∷◌, length, if◌then◌else◌, Option, Some, None, IfSome, Result, Ok, Err, IfOk, sym, ap, subst, ◌∙◌, false, arith, length-append}
 use Rattle.std.proofs.lemmas.Bool.Decides.{nat_tests}
 use Rattle.std.specs.List.{filter}
 use Rattle.pm_base.specs.Stamps.{is_below}
@@ -7,7 +7,6 @@ use Rattle.pm_base.specs.declared.rows.Entry.{Entry}
 use Rattle.pm_base.specs.declared.run.Event.{Event}
 use Rattle.pm_base.specs.declared.stamp.Stamp.{Stamp}
 use Rattle.pm_base.specs.declared.run.RunSettings.{RunSettings}
-use Rattle.pm_io.specs.Causes.{AppendsPart, AppendsPrefix}
 use Rattle.pm_io.proofs.Known.{prefix-none, consumes-all}
 use Rattle.pm_kernel.specs.Runs.{BeginsClosed, IsJournal, text_of}
 use Rattle.pm_model.specs.Entries.{run_below}
@@ -34,9 +33,6 @@ pub record Quits (e : Ending) : Type 0 where
   pub done : e ≢ ending.Done
   pub spent : e ≢ ending.BudgetSpent
   pub fault : e ≢ ending.WriteFault
-
-pub quits-words : Quits ending.Words
-quits-words = record { done = λ h. cc h; spent = λ h. cc h; fault = λ h. cc h }
 
 pub quits-refused : (f : ScenarioFault) → Quits (ending.Refused f)
 quits-refused f = record { done = λ h. cc h; spent = λ h. cc h; fault = λ h. cc h }

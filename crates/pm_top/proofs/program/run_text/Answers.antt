@@ -1,7 +1,7 @@
 use Rattle.std.proofs.Common.{◌∙◌, Some, sym}
 use Rattle.pm_top.specs.declared.outcome.Ending.TheVariants as ending
 use Rattle.pm_top.proofs.Complete.{ok-err}
-use Rattle.pm_top.proofs.Prints.{printed-none, printed-plan, quits-memory, quits-refused}
+use Rattle.pm_top.proofs.Prints.{printed-none, printed-plan, quits-memory}
 use Rattle.pm_top.proofs.program.run_text.Goals as goal
 
 pub returns-in-Ok-clause-printed : goal.returns-in-Ok-clause-printed

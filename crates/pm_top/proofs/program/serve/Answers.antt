@@ -2,7 +2,6 @@ use Rattle.std.proofs.Common.{◌≡◌, ◌∙◌, refl, sym, map, string_bytes
 use Rattle.pm_top.proofs.Complete.{completes, limits, refuses, within, Told}
 use Rattle.pm_top.proofs.Stopped.{firsts, kept, memory-served, seconds, words-served}
 use Rattle.pm_top.specs.Headline.{IsUnfit}
-use Rattle.pm_top.specs.declared.outcome.Ending.TheVariants as ending
 use Rattle.pm_words.specs.Words.{settings_of}
 use Rattle.pm_words.specs.declared.settings.Settings.{Settings}
 use Rattle.pm_top.proofs.program.serve.Goals as goal
