@@ -113,8 +113,14 @@ impl<'a> World<'a> {
         };
         self.spoilt = true;
         self.receivers.clear();
-        self.processes
-            .arrive(alloc, &mut self.mail, &mut self.receivers, to, from, message)?;
+        self.processes.arrive(
+            alloc,
+            &mut self.mail,
+            &mut self.receivers,
+            to,
+            from,
+            message,
+        )?;
         self.spoilt = false;
         self.made += 1;
         Ok(true)

@@ -23,7 +23,7 @@ use std::alloc::Global;
 // Of how many agents an epoch lets the next steps through. Agents of one time that meet at one variable roll each other
 // back; where too many of them run at once, a rollback sets off more than one other and the run doesn't end. Chosen by
 // measuring.
-const AGENTS_AHEAD: usize = 8;
+const AGENTS_AHEAD: usize = 4;
 
 /// How a stage ended.
 #[derive(Clone, Copy, Debug, PartialEq, Eq)]

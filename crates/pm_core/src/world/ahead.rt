@@ -26,11 +26,13 @@ impl<'a> World<'a> {
         if least.len() < count {
             return Ok(None);
         }
-        Ok(least.last().map(|stamp| {
-            Line::At(Stamp {
-                time: stamp.time,
-                agent: stamp.agent.saturating_add(1),
-            })
-        }))
+        Ok(
+            least.last().map(|stamp| {
+                Line::At(Stamp {
+                    time: stamp.time,
+                    agent: stamp.agent.saturating_add(1),
+                })
+            }),
+        )
     }
 }

@@ -14,9 +14,7 @@ fn is_kept_back(alp: &Alp<'_>, line: Line, message: &Message) -> bool
     ensures { result ≡ kept_back (Some line) alp.now.agent.awaited message.now }
 {
     match message {
-        Message::Wake { num, stamp } => {
-            alp.awaits(*num) && !line.is_past(*stamp)
-        }
+        Message::Wake { num, stamp } => { alp.awaits(*num) && !line.is_past(*stamp) }
         _ => false,
     }
 }

@@ -15,7 +15,7 @@ returns-in_default-clause-none c = λ e.
     let s = c.self.inside in
     let v = c.args.self.now in
     let same : v.world.links ≡ links_of v.plan s.mail =
-        subst (λ (z : WorldView). z.world.links ≡ links_of z.plan s.mail) c.self.view_is refl in
+    subst (λ (z : WorldView). z.world.links ≡ links_of z.plan s.mail) c.self.view_is refl in
     nothing_waits v s.mail same c.args.window c.args.to c.in_default.ensures.none
 
 pub returns-then-not-holds_back-clause-some : goal.returns-then-not-holds_back-clause-some
@@ -23,7 +23,7 @@ returns-then-not-holds_back-clause-some c =
     let s = c.self.inside in
     let v = c.args.self.now in
     let same : v.world.links ≡ links_of v.plan s.mail =
-        subst (λ (z : WorldView). z.world.links ≡ links_of z.plan s.mail) c.self.view_is refl in
+    subst (λ (z : WorldView). z.world.links ≡ links_of z.plan s.mail) c.self.view_is refl in
     is_free v s.mail same c.args.window c.args.to c.in-Some.from c.in-Some-first.message.now
     (sym c.in-Some-first.ensures) (sym c.holds_back.ensures ∙ c.if-not-holds_back.true)
 
@@ -55,15 +55,15 @@ returns-in-Some-first-2-clause-some c =
     let s = c.self.inside in
     let v = c.args.self.now in
     let same : v.world.links ≡ links_of v.plan s.mail =
-        subst (λ (z : WorldView). z.world.links ≡ links_of z.plan s.mail) c.self.view_is refl in
+    subst (λ (z : WorldView). z.world.links ≡ links_of z.plan s.mail) c.self.view_is refl in
     let well : s.spoilt ≡ false = subst (λ (z : WorldView). z.spoilt ≡ false) (sym c.self.view_is) c.requires in
     let valid : IsValid v.plan = subst (λ (z : WorldView). IsValid z.plan) c.self.view_is c.self.invariant.valid in
     let reached : Reached v.plan s.made v.world = subst (λ (z : WorldView). Reached z.plan s.made z.world) c.self.view_is
-        (c.self.invariant.stands well).reached in
+    (c.self.invariant.stands well).reached in
     let there : first_of (waiting c.args.to (home v.plan (c.args.to - clps_of v.plan)) s.mail)
-        ≡ Some c.in-Some-first-2.field-0.now = subst
-        (λ z. first_of (waiting c.args.to z s.mail) ≡ Some c.in-Some-first-2.field-0.now) c.home_of-home.ensures
-        (sym c.in-Some-first-2.ensures) in
+    ≡ Some c.in-Some-first-2.field-0.now = subst
+    (λ z. first_of (waiting c.args.to z s.mail) ≡ Some c.in-Some-first-2.field-0.now) c.home_of-home.ensures
+    (sym c.in-Some-first-2.ensures) in
     subst (IsFree v c.args.window c.args.to) (sym c.home_of-home.ensures)
     (home_free v s.mail same c.args.window c.args.to s.made valid reached c.in-Some.from c.in-Some-first.message.now
     (sym c.in-Some-first.ensures) (sym c.holds_back.ensures ∙ c.if-not-holds_back.false)
@@ -74,12 +74,12 @@ returns-in-None-clause-none c = λ e.
     let s = c.self.inside in
     let v = c.args.self.now in
     let same : v.world.links ≡ links_of v.plan s.mail =
-        subst (λ (z : WorldView). z.world.links ≡ links_of z.plan s.mail) c.self.view_is refl in
+    subst (λ (z : WorldView). z.world.links ≡ links_of z.plan s.mail) c.self.view_is refl in
     let well : s.spoilt ≡ false = subst (λ (z : WorldView). z.spoilt ≡ false) (sym c.self.view_is) c.requires in
     let valid : IsValid v.plan = subst (λ (z : WorldView). IsValid z.plan) c.self.view_is c.self.invariant.valid in
     let reached : Reached v.plan s.made v.world = subst (λ (z : WorldView). Reached z.plan s.made z.world) c.self.view_is
-        (c.self.invariant.stands well).reached in
+    (c.self.invariant.stands well).reached in
     let none : first_of (waiting c.args.to (home v.plan (c.args.to - clps_of v.plan)) s.mail) ≡ None =
-        subst (λ z. first_of (waiting c.args.to z s.mail) ≡ None) c.home_of-home.ensures (sym c.in-None.ensures) in
+    subst (λ z. first_of (waiting c.args.to z s.mail) ≡ None) c.home_of-home.ensures (sym c.in-None.ensures) in
     all_held v s.mail same c.args.window c.args.to s.made valid reached c.in-Some.from c.in-Some-first.message.now
     (sym c.in-Some-first.ensures) (sym c.holds_back.ensures ∙ c.if-not-holds_back.false) none
