@@ -16,10 +16,33 @@ use crate::course::Course;
 use crate::ran::{Outcome, Ran};
 use crate::stage::{Staged, close, stage};
 use crate::writing::{Counts, Wrote};
-use pm_base::{Journal, List, RunSettings};
+use pm_base::{Journal, Line, List, RunSettings};
 use pm_io::Sink;
 use pm_plan::Plan;
 use std::alloc::Global;
+
+// Of how many agents an epoch lets the next steps through. Agents of one time that meet at one variable roll each other
+// back; where too many of them run at once, a rollback sets off more than one other and the run doesn't end. Chosen by
+// measuring.
+const AGENTS_AHEAD: usize = 4;
+
+// The bound of the next epoch: that of the one before, where this was cut off by its quota, so that the steps that it let
+// through come to their end; else just above the moments of the agents that act next. Want of memory leaves the run
+// without a bound.
+fn bound_of(alloc: Global, course: &Course<'_>, before: Option<Line>) -> Option<Line> {
+    match before {
+        Some(line) => Some(line),
+        None => course.world.ahead(alloc, AGENTS_AHEAD).unwrap_or(None),
+    }
+}
+
+// The bound that stays for the next epoch.
+fn kept_bound(bound: Option<Line>, made: u64, epoch: u64) -> Option<Line> {
+    if made < epoch {
+        return None;
+    }
+    bound
+}
 
 // Stages, until nothing is left to be delivered or the budget is spent.
 fn stages<K: Sink>(
@@ -52,9 +75,14 @@ fn stages<K: Sink>(
     ensures stalls { K.stalls out.old ≤ K.stalls out.new }
 {
     let mut left = settings.budget;
+    let mut before = None;
     while left > 0 && !course.is_over() {
-        match stage(alloc, plan, settings, left, course, counts, out) {
-            Staged::More(made) => left -= made,
+        let bound = bound_of(alloc, course, before);
+        match stage(alloc, plan, settings, left, bound, course, counts, out) {
+            Staged::More(made) => {
+                left -= made;
+                before = kept_bound(bound, made, settings.epoch);
+            }
             Staged::WriteFault => return Outcome::WriteFault,
             Staged::Memory => return Outcome::Memory,
         }

@@ -15,15 +15,10 @@ ghost use Rattle.pm_sim.specs.Worlds.{handed, least_line, mail, may_commit};
 use crate::course::Course;
 use crate::window::window_of;
 use crate::writing::{Counts, Wrote, write_entries};
-use pm_base::{Entry, Event, List, Memory, RunSettings};
+use pm_base::{Entry, Event, Line, List, Memory, RunSettings};
 use pm_io::Sink;
 use pm_plan::Plan;
 use std::alloc::Global;
-
-// Of how many agents an epoch lets the next steps through. Agents of one time that meet at one variable roll each other
-// back; where too many of them run at once, a rollback sets off more than one other and the run doesn't end. Chosen by
-// measuring.
-const AGENTS_AHEAD: usize = 4;
 
 /// How a stage ended.
 #[derive(Clone, Copy, Debug, PartialEq, Eq)]
@@ -102,12 +97,13 @@ fn stage_of(made: u64, wrote: Wrote) -> Staged
 }
 
 /// An epoch, a Commit at the least line, and the lines of what this hands out. `left` is how many deliveries may still be
-/// made.
+/// made, `bound` the kernel's own bound on how far agents run ahead.
 pub fn stage<K: Sink>(
     alloc: Global,
     plan: &Plan,
     settings: &RunSettings,
     left: u64,
+    bound: Option<Line>,
     course: &mut Course<'_>,
     counts: &mut Counts,
     out: &mut K,
@@ -134,8 +130,6 @@ pub fn stage<K: Sink>(
     ensures stalls { K.stalls out.old ≤ K.stalls out.new }
 {
     let closed = course.journal.len();
-    // Want of memory for the bound leaves the run without it.
-    let bound = course.world.ahead(alloc, AGENTS_AHEAD).unwrap_or(None);
     let window = window_of(course.world.least(), settings.window, bound);
     match course.epoch(alloc, Some(window), left.min(settings.epoch)) {
         Ok(made) => stage_of(made, close(alloc, plan, closed, course, counts, out)),
