@@ -1,12 +1,13 @@
 -- What a record is after a put, a cut or a read, by the lists that hold it.
-use Rattle.std.proofs.Common.{◌≡◌, ℕ, ◌<◌, ◌≤◌, ◌==◌, zero, suc, inl, inr, Bool, true, false, cond, not, ◌||◌, ◌&&◌, Option, None, Some, List, [], ◌∷◌, ◌++◌, length, nat_lt, pos, ◌⊎◌, get_or, set, take, drop, map, filter, refl, arith, ap, ap₂, sym, ◌∙◌, subst}
+use Rattle.std.proofs.Common.{◌≡◌, ℕ, ◌+◌, ◌-◌, ◌<◌, ◌≤◌, ◌==◌, append-nil, zero, suc, inl, inr, Bool, true, false, cond, not, ◌||◌, ◌&&◌, Option, None, Some, List, [], ◌∷◌, ◌++◌, length, nat_lt, pos, ◌⊎◌, get_or, set, take, drop, map, filter, refl, arith, ap, ap₂, sym, ◌∙◌, subst}
 use Rattle.std.specs.List.{All, AllByRecursion}
 use Rattle.std.specs.Option.{option_to_list}
-use Rattle.std.proofs.lemmas.Bool.{or_parts}
+use Rattle.std.proofs.lemmas.Bool.{and_from, or_parts}
 use Rattle.std.proofs.lemmas.Bool.Decides.{nat_tests}
-use Rattle.std.proofs.lemmas.List.{map-append, take-append-drop}
+use Rattle.std.proofs.lemmas.List.{drop_all, get_or-drop, length-drop, map-append, take-append-drop}
 use Rattle.std.proofs.lemmas.List.Elements.{recursion_from_All}
-use Rattle.pm_base.specs.Stamps.{stamp_lt}
+use Rattle.pm_base.specs.Changes.{applied}
+use Rattle.pm_base.specs.Stamps.{is_below, stamp_lt}
 use Rattle.pm_base.specs.declared.rows.CutRow.{CutRow}
 use Rattle.pm_base.specs.declared.rows.GiveRow.{GiveRow}
 use Rattle.pm_base.specs.declared.rows.Parts.{Parts}
@@ -16,23 +17,24 @@ use Rattle.pm_base.specs.declared.stamp.Line.{Line}
 use Rattle.pm_base.specs.declared.stamp.Line.TheVariants as line
 use Rattle.pm_base.specs.declared.stamp.Num.{Num}
 use Rattle.pm_base.specs.declared.stamp.Stamp.{Stamp}
+use Rattle.pm_base.specs.declared.value.Change.{Change}
 use Rattle.pm_base.specs.declared.value.Change.TheVariants as change
 use Rattle.pm_base.specs.declared.value.Value.{Value}
 use Rattle.pm_base.specs.declared.value.Window.{Window}
 use Rattle.pm_periods.specs.Inner.{IsSound, parts_of}
-use Rattle.pm_periods.specs.Places.{number_place}
+use Rattle.pm_periods.specs.Places.{IsAfter, number_place}
 use Rattle.pm_periods.specs.Records.{IsSettled, after_cut, after_put, after_watch, changed_of, first_read, fresh_read, given_when, gives_of_cut, gives_of_put, gives_of_watch, hit_by, hit_eq, hit_in, is_live, is_seen, is_stale, last_give, next_give, record_hit, record_value, refreshed, value_after, value_below, with_cut, with_put, with_read}
 use Rattle.pm_base.specs.Stamps.{num_eq}
 use Rattle.pm_periods.specs.Rows.{AreDistinct, IsInOrder, add_row, cut_key, has_num, key_lt, put_key, read_key}
-use Rattle.pm_periods.specs.Walks.{CannotSee, held_key, held_row, held_value, marked, seen_by, withdrawn_at}
+use Rattle.pm_periods.specs.Walks.{CannotSee, IsSet, SeesSet, sets, held_key, held_row, held_value, marked, seen_by, withdrawn_at}
 use Rattle.pm_periods.specs.declared.held.Held.{Held}
 use Rattle.pm_periods.specs.declared.record.VarRecord.TheInside.{Inside}
 use Rattle.pm_periods.specs.declared.rows.RowKey.{RowKey}
 use Rattle.pm_periods.proofs.Hits.{changed_of-append, changed_of-one, fresh_all, fresh_distinct, fresh_in_order, fresh_read-key, fresh_read-same, hits_settled}
-use Rattle.pm_periods.proofs.Keys.{num_eq-flip, num_eq-same}
+use Rattle.pm_periods.proofs.Keys.{num_eq-flip, num_eq-same, up_to-stamp}
 use Rattle.pm_periods.proofs.Numbers.{Named, each_apart, only_named}
 use Rattle.pm_periods.proofs.Ordered.{add_row-distinct, add_row-in_order, filter_add_row_out, has_as_place, has_num-add_row}
-use Rattle.pm_periods.proofs.Walks.{held_value-marked, in_order-held}
+use Rattle.pm_periods.proofs.Walks.{held_value-marked, in_order-held, taken}
 
 -- a row is put in its place before or after its rows are rewritten
 pub map_add_row : {X Y : Type 0} (f : X → Y) (kx : X → RowKey) (ky : Y → RowKey) → ((x : X) → ky (f x) ≡ kx x) → (r : X) (xs : List X) → map f (add_row kx r xs) ≡ add_row ky (f r) (map f xs)
@@ -58,6 +60,10 @@ each_take P (suc n) (x ∷ xs) a = (a.0, each_take P n xs a.1)
 both : {X : Type 0} (P Q R : X → Type 0) → ((x : X) → P x → Q x → R x) → (xs : List X) → AllByRecursion P xs → AllByRecursion Q xs → AllByRecursion R xs
 both P Q R f [] a b = tt
 both P Q R f (x ∷ xs) a b = (f x a.0 b.0, both P Q R f xs a.1 b.1)
+
+pub each_to : {X : Type 0} (P Q : X → Type 0) → ((x : X) → P x → Q x) → (xs : List X) → AllByRecursion P xs → AllByRecursion Q xs
+each_to P Q f [] a = tt
+each_to P Q f (x ∷ xs) a = (f x a.0, each_to P Q f xs a.1)
 
 -- where the reads before a place have their hits, refreshing those from there on refreshes all
 pub refreshed_from : (var : ℕ) (sees : Stamp → Value) (n : ℕ) (qs : List ReadRow) → AllByRecursion (λ q. q.hit ≡ hit_by sees q) (take n qs)
@@ -227,10 +233,6 @@ named_below n hs s d u below = elim (either (number_place held_key n hs) (length
     past : (a b : ℕ) → b ≤ a → nat_lt a b ≡ false
     past a b le = grind (arith, nat_tests, le)
 
-    each_to : {X : Type 0} (P Q : X → Type 0) → ((x : X) → P x → Q x) → (xs : List X) → AllByRecursion P xs → AllByRecursion Q xs
-    each_to P Q f [] a = tt
-    each_to P Q f (x ∷ xs) a = (f x a.0, each_to P Q f xs a.1)
-
 seen_otherwise : (c : CutRow) (cuts : List CutRow) (s : Stamp) (hs : List Held) → AllByRecursion (λ h. num_eq c.num h.row.num ≡ true → stamp_lt h.row.stamp s ≡ false) hs
     → filter (is_seen (add_row cut_key c cuts) (line.At s)) (map held_row hs) ≡ filter (is_seen cuts (line.At s)) (map held_row hs)
 seen_otherwise c cuts s [] a = refl
@@ -290,6 +292,118 @@ cut_whole i s c cs is_cs known told new xs is_xs named is_named qs is_qs zs is_z
     let f' = is_given ∙ (f ∙ (ap (λ z. z ++ changed_of i.var (seen_by ys i.base) (drop n i.reads.items)) is_none ∙ ap (λ z. changed_of i.var (seen_by z i.base) (drop n i.reads.items)) is_ys)) in
     let done = cut_parts i.var i.base i.puts.items i.cuts.items i.reads.items s.settled s.marks c fresh hs' withdrawn' cuts' added n reads' gives up' e' f' in
     (done.0, done.1, done.2, cut_marks i.var i.base i.puts.items i.cuts.items i.reads.items s.settled s.marks c fresh hs' withdrawn' cuts' added)
+
+-- Behind a live put that sets a value nothing before it matters.
+
+sets_alike : (x : Change) → sets x ≡ true → (v w : Value) → applied x v ≡ applied x w
+sets_alike (change.Set u) e v w = refl
+sets_alike (change.Add u) e v w = absurd cc
+
+-- the put of that place is live, sets a value, and is seen at the line
+abbrev SetBelow : Line → List Held → ℕ → Type 0
+SetBelow l hs j = (d : Held) → IsSet (get_or hs j d) × (is_below (get_or hs j d).row.stamp l ≡ true)
+
+forget_held : (l : Line) (hs : List Held) (j : ℕ) (v w : Value) → j < length hs → SetBelow l hs j → held_value l hs v ≡ held_value l hs w
+forget_held l [] j v w lt a = absurd (omega arith)
+forget_held l (h ∷ hs) zero v w lt a =
+    let b = a h in
+    let g : (h.live && is_below h.row.stamp l) ≡ true = and_from h.live (is_below h.row.stamp l) b.0.0 b.1 in
+    ap (held_value l hs) (ap (λ c. taken c h v) g ∙ (sets_alike h.row.change b.0.1 v w ∙ ap (λ c. taken c h w) (sym g)))
+forget_held l (h ∷ hs) (suc j) v w lt a =
+    forget_held l hs j (taken (h.live && is_below h.row.stamp l) h v) (taken (h.live && is_below h.row.stamp l) h w) (omega arith) a
+
+put_held : (l : Line) (p : Held) (hs : List Held) (j : ℕ) (v : Value) → j < length hs → ((d : Held) → key_lt (held_key p) (held_key (get_or hs j d)) ≡ true) → SetBelow l hs j → held_value l (add_row held_key p hs) v ≡ held_value l hs v
+put_held l p [] j v lt k a = absurd (omega arith)
+put_held l p (h ∷ hs) j v lt k a = by (key_lt (held_key p) (held_key h)) refl j lt k a (λ i w. put_held l p hs i w)
+  where
+    by : (b : Bool) → key_lt (held_key p) (held_key h) ≡ b → (i : ℕ) → i < length (h ∷ hs) → ((d : Held) → key_lt (held_key p) (held_key (get_or (h ∷ hs) i d)) ≡ true) → SetBelow l (h ∷ hs) i
+        → ((m : ℕ) (w : Value) → m < length hs → ((d : Held) → key_lt (held_key p) (held_key (get_or hs m d)) ≡ true) → SetBelow l hs m → held_value l (add_row held_key p hs) w ≡ held_value l hs w)
+        → held_value l (cond b (p ∷ (h ∷ hs)) (h ∷ add_row held_key p hs)) v ≡ held_value l (h ∷ hs) v
+    by true e i low k' a' again = forget_held l (h ∷ hs) i (taken (p.live && is_below p.row.stamp l) p v) v low a'
+    by false e zero low k' a' again = absurd (let m = sym e ∙ k' h in cc)
+    by false e (suc i) low k' a' again = again i (taken (h.live && is_below h.row.stamp l) h v) (omega arith) k' a'
+
+cut_held : (l : Line) (n : ℕ) (hs : List Held) (j : ℕ) (v : Value) → n < j → j < length hs → SetBelow l hs j → held_value l (withdrawn_at n hs) v ≡ held_value l hs v
+cut_held l n [] j v up lt a = absurd (omega arith)
+cut_held l zero (h ∷ hs) zero v up lt a = absurd (omega arith)
+cut_held l zero (h ∷ hs) (suc j) v up lt a = forget_held l hs j v (taken (h.live && is_below h.row.stamp l) h v) (omega arith) a
+cut_held l (suc n) (h ∷ hs) zero v up lt a = absurd (omega arith)
+cut_held l (suc n) (h ∷ hs) (suc j) v up lt a = cut_held l n hs j (taken (h.live && is_below h.row.stamp l) h v) (omega arith) (omega arith) a
+
+each_drop : {X : Type 0} (P : X → Type 0) (n : ℕ) (xs : List X) → AllByRecursion P xs → AllByRecursion P (drop n xs)
+each_drop P zero xs a = a
+each_drop P (suc n) [] a = tt
+each_drop P (suc n) (x ∷ xs) a = each_drop P n xs a.1
+
+-- where the reads from a place on have their hits, refreshing those before it refreshes all
+refreshed_up_to : (var : ℕ) (sees : Stamp → Value) (m : ℕ) (qs : List ReadRow) → AllByRecursion (λ q. q.hit ≡ hit_by sees q) (drop m qs)
+    → (map (fresh_read sees) (take m qs) ++ drop m qs ≡ map (fresh_read sees) qs) × (changed_of var sees (take m qs) ≡ changed_of var sees qs)
+refreshed_up_to var sees m qs a =
+    let one = fresh_all var sees (drop m qs) a in
+    let split = take-append-drop m qs in (
+      ap (λ z. map (fresh_read sees) (take m qs) ++ z) (sym one.0) ∙ (sym (map-append (fresh_read sees) (take m qs) (drop m qs)) ∙ ap (map (fresh_read sees)) split),
+      sym (append-nil (changed_of var sees (take m qs)))
+          ∙ (ap (λ z. changed_of var sees (take m qs) ++ z) (sym one.1) ∙ (sym (changed_of-append var sees (take m qs) (drop m qs)) ∙ ap (changed_of var sees) split)),
+    )
+
+module _ (i : Inside) (s : IsSound i) (n m : ℕ) (qs : List ReadRow) (is_qs : qs ≡ i.reads.items) (zs : List Held) (is_zs : zs ≡ i.puts.items) (ys : List Held) where
+  -- all reads from that place on are refreshed where the last of them see what they saw
+  more : AllByRecursion (λ q. seen_by ys i.base q.stamp ≡ seen_by i.puts.items i.base q.stamp) (drop m (drop n i.reads.items))
+      → (take n i.reads.items ++ (map (fresh_read (seen_by ys i.base)) (take m (drop n i.reads.items)) ++ drop m (drop n i.reads.items)) ≡ take n i.reads.items ++ map (fresh_read (seen_by ys i.base)) (drop n i.reads.items))
+      × (changed_of i.var (seen_by ys i.base) (take m (drop n i.reads.items)) ≡ changed_of i.var (seen_by ys i.base) (drop n i.reads.items))
+  more same =
+      let rest = drop m (drop n i.reads.items) in
+      let had = each_drop (λ q. q.hit ≡ record_hit (parts_of i) q) m (drop n i.reads.items) (each_drop (λ q. q.hit ≡ record_hit (parts_of i) q) n i.reads.items s.settled.hits) in
+      let sees = sees_by i.base i.puts.items i.cuts.items i.reads.items s.marks in
+      let hits = both (λ q. seen_by ys i.base q.stamp ≡ seen_by i.puts.items i.base q.stamp) (λ q. q.hit ≡ record_hit (parts_of i) q) (λ q. q.hit ≡ hit_by (seen_by ys i.base) q)
+      (λ q e h. h ∙ ap (λ v. hit_in v q.window) (ap (λ z. z q.stamp) sees ∙ sym e)) rest same had in
+      let done = refreshed_up_to i.var (seen_by ys i.base) m (drop n i.reads.items) hits in
+      (ap (λ z. take n i.reads.items ++ z) done.0, done.1)
+
+  pub put_more : (p : PutRow) (behind : ℕ) (xs : List Held) → xs ≡ i.puts.items → All (IsAfter held_key (put_key p)) (drop behind xs) → AllByRecursion (SeesSet zs behind) (drop m (drop n qs))
+      → (cs : List CutRow) (held : Held) → held ≡ marked cs p → (hs' : List Held) → hs' ≡ add_row held_key held i.puts.items → ys ≡ hs'
+      → (take n i.reads.items ++ (map (fresh_read (seen_by ys i.base)) (take m (drop n i.reads.items)) ++ drop m (drop n i.reads.items)) ≡ take n i.reads.items ++ map (fresh_read (seen_by ys i.base)) (drop n i.reads.items))
+      × (changed_of i.var (seen_by ys i.base) (take m (drop n i.reads.items)) ≡ changed_of i.var (seen_by ys i.base) (drop n i.reads.items))
+  put_more p behind xs is_xs after later cs held is_held hs' added is_ys =
+      let after' = subst (λ z. All (IsAfter held_key (put_key p)) (drop behind z)) is_xs after in
+      let later' = subst (λ z. AllByRecursion (SeesSet z behind) (drop m (drop n i.reads.items))) is_zs (subst (λ z. AllByRecursion (SeesSet zs behind) (drop m (drop n z))) is_qs later) in
+      more (each_to (SeesSet i.puts.items behind) (λ q. seen_by ys i.base q.stamp ≡ seen_by i.puts.items i.base q.stamp) (λ q e. one q after' e) (drop m (drop n i.reads.items)) later')
+    where
+      one : (q : ReadRow) → All (IsAfter held_key (put_key p)) (drop behind i.puts.items) → SeesSet i.puts.items behind q → seen_by ys i.base q.stamp ≡ seen_by i.puts.items i.base q.stamp
+      one q after' e =
+          let j = e.0 in
+          let front : ℕ = j - behind in
+          let at : behind + front ≡ j = (let le = e.1 in omega (arith, le)) in
+          let low : front < length (drop behind i.puts.items) = (let le = e.1 in let lt = e.2 in let len = length-drop behind i.puts.items in omega (arith, le, lt, len)) in
+          let key : (d : Held) → key_lt (held_key (marked cs p)) (held_key (get_or i.puts.items j d)) ≡ true =
+          λ d. ap (λ z. key_lt (put_key p) (held_key z)) (ap (λ k. get_or i.puts.items k d) (sym at) ∙ sym (get_or-drop behind i.puts.items front d)) ∙ after' front d low in
+          ap (λ z. seen_by z i.base q.stamp) (is_ys ∙ (added ∙ ap (λ h. add_row held_key h i.puts.items) is_held)) ∙ put_held (line.At q.stamp) (marked cs p) i.puts.items j i.base e.2 key e.3
+
+  pub cut_more : (named : ℕ) → AllByRecursion (SeesSet zs (suc named)) (drop m (drop n qs)) → (hs' : List Held) → hs' ≡ withdrawn_at named i.puts.items → ys ≡ hs'
+      → (take n i.reads.items ++ (map (fresh_read (seen_by ys i.base)) (take m (drop n i.reads.items)) ++ drop m (drop n i.reads.items)) ≡ take n i.reads.items ++ map (fresh_read (seen_by ys i.base)) (drop n i.reads.items))
+      × (changed_of i.var (seen_by ys i.base) (take m (drop n i.reads.items)) ≡ changed_of i.var (seen_by ys i.base) (drop n i.reads.items))
+  cut_more named later hs' withdrawn is_ys =
+      let later' = subst (λ z. AllByRecursion (SeesSet z (suc named)) (drop m (drop n i.reads.items))) is_zs (subst (λ z. AllByRecursion (SeesSet zs (suc named)) (drop m (drop n z))) is_qs later) in
+      more (each_to (SeesSet i.puts.items (suc named)) (λ q. seen_by ys i.base q.stamp ≡ seen_by i.puts.items i.base q.stamp)
+      (λ q e. ap (λ z. seen_by z i.base q.stamp) (is_ys ∙ withdrawn) ∙ cut_held (line.At q.stamp) named i.puts.items e.0 i.base (let le = e.1 in omega (arith, le)) e.2 e.3) (drop m (drop n i.reads.items)) later')
+
+-- the reads from one that is made after a stamp on are made after it
+after_later : (s t u : Stamp) → stamp_lt s t ≡ true → stamp_lt u t ≡ false → stamp_lt s u ≡ true
+after_later s t u e f = grind (arith, nat_tests, e, f)
+
+pub later_reads : (s : Stamp) (qs : List ReadRow) (i : ℕ) (d : ReadRow) → i < length qs → IsInOrder read_key qs → stamp_lt s (get_or qs i d).stamp ≡ true → AllByRecursion (λ q. stamp_lt s q.stamp ≡ true) (drop i qs)
+later_reads s [] i d lt o e = absurd (omega arith)
+later_reads s (q ∷ qs) zero d lt o e = (e, each_to (λ p. key_lt (read_key p) (read_key q) ≡ false) (λ p. stamp_lt s p.stamp ≡ true) (λ p k. after_later s q.stamp p.stamp e (up_to-stamp (read_key q) (read_key p) k)) qs o.0)
+later_reads s (q ∷ qs) (suc i) d lt o e = later_reads s qs i d (omega arith) o.1 e
+
+pub none_later : (P : ReadRow → Type 0) (qs : List ReadRow) (i : ℕ) → length qs ≤ i → AllByRecursion P (drop i qs)
+none_later P qs i le = subst (AllByRecursion P) (sym (drop_all i qs le)) tt
+
+-- reads made after the stamp of a live put that sets a value see it
+pub seen_set : (hs : List Held) (n j : ℕ) (h : Held) (qs : List ReadRow) → n ≤ j → j < length hs → ((d : Held) → IsSet (get_or hs j d)) → ((d : Held) → get_or hs j d ≡ h)
+    → AllByRecursion (λ q. stamp_lt h.row.stamp q.stamp ≡ true) qs → AllByRecursion (SeesSet hs n) qs
+seen_set hs n j h qs le lt set is a =
+    each_to (λ q. stamp_lt h.row.stamp q.stamp ≡ true) (SeesSet hs n) (λ q e. (j, le, lt, λ d. (set d, ap (λ (z : Held). stamp_lt z.row.stamp q.stamp) (is d) ∙ e))) qs a
 
 -- Reading.
 

@@ -1,5 +1,5 @@
 -- Puts with the mark whether they are live, and the walk along them.
-use Rattle.std.specs.Prelude.{◌≡◌, ℕ, zero, suc, ◌<◌, ◌&&◌, ◌||◌, ◌++◌, Bool, false, not}
+use Rattle.std.specs.Prelude.{◌≡◌, ℕ, zero, suc, ◌<◌, ◌≤◌, ◌&&◌, ◌||◌, ◌++◌, Bool, true, false, not}
 use Rattle.std.specs.Prelude.{Option, Some, None, if◌then◌else◌, List, [], ◌∷◌, length, slice_index_or}
 use Rattle.pm_base.specs.Changes.{applied}
 use Rattle.pm_base.specs.Stamps.{is_after, is_below, stamp_lt}
@@ -9,6 +9,8 @@ use Rattle.pm_base.specs.declared.rows.ReadRow.{ReadRow}
 use Rattle.pm_base.specs.declared.stamp.Line.{Line}
 use Rattle.pm_base.specs.declared.stamp.Line.TheVariants as line
 use Rattle.pm_base.specs.declared.stamp.Stamp.{Stamp}
+use Rattle.pm_base.specs.declared.value.Change.{Change}
+use Rattle.pm_base.specs.declared.value.Change.TheVariants as change
 use Rattle.pm_base.specs.declared.value.Period.{Period}
 use Rattle.pm_base.specs.declared.value.Value.{Value}
 use Rattle.pm_periods.specs.Records.{is_live, put_stays}
@@ -60,6 +62,21 @@ withdrawn_at (suc n) (h ∷ hs) = h ∷ withdrawn_at n hs
 -- the read's stamp isn't after that of the put of that place
 abbrev pub CannotSee : List Held → ℕ → ReadRow → Type 0
 CannotSee hs n q = (d : Held) → n < length hs → stamp_lt (slice_index_or hs n d).row.stamp q.stamp ≡ false
+
+-- the change sets a value, whatever was there before
+abbrev pub sets : Change → Bool
+sets (change.Set w) = true
+sets (change.Add w) = false
+
+-- the put is live and sets a value
+abbrev pub IsSet : Held → Type 0
+IsSet h = (h.live ≡ true) × (sets h.row.change ≡ true)
+
+-- the read sees a put from that place on that sets a value, so that nothing before it matters
+abbrev pub SeesSet : List Held → ℕ → ReadRow → Type 0
+SeesSet hs n q =
+    (j : ℕ) × (n ≤ j) × (j < length hs) ×
+    ((d : Held) → IsSet (slice_index_or hs j d) × (stamp_lt (slice_index_or hs j d).row.stamp q.stamp ≡ true))
 
 -- the put isn't below the line
 abbrev pub held_stays : Line → Held → Bool

@@ -1,13 +1,13 @@
 // Puts with the mark whether they are live, and one walk along them that tells what each read sees.
-ghost use Rattle.std.specs.Prelude.{◌≡◌, ◌+◌, ◌≤◌, ◌<◌, ◌++◌, ◌∷◌, [], ◌^◌, drop};
+ghost use Rattle.std.specs.Prelude.{◌≡◌, ◌+◌, ◌≤◌, ◌<◌, ◌++◌, ◌∷◌, [], ◌^◌, take, drop, true};
 ghost use Rattle.std.specs.Prelude.{length, map, vec_len, vec_capacity};
 ghost use Rattle.pm_base.specs.declared.stamp.Line.TheVariants as line;
 ghost use Rattle.pm_periods.specs.Records.{HaveTurns, changed_of, fresh_read, hit_eq, hit_in, last_give, with_hit};
 ghost use Rattle.pm_periods.specs.Rows.{IsInOrder, read_key};
-ghost use Rattle.pm_periods.specs.Walks.{held_key, held_value, marked, seen_by, step, walk};
+ghost use Rattle.pm_periods.specs.Walks.{IsSet, held_key, held_value, marked, seen_by, step, walk};
 
 use crate::rows::{Row, RowKey, has};
-use pm_base::{CutRow, GiveRow, Line, PutRow, ReadRow, Stamp, Value, Window};
+use pm_base::{Change, CutRow, GiveRow, Line, PutRow, ReadRow, Stamp, Value, Window};
 
 // A put as it is kept: live where no received cut names it.
 #[derive(Clone, Copy, Debug, PartialEq, Eq)]
@@ -31,6 +31,16 @@ impl Held {
     {
         let live = !has(cuts, row.num);
         Held { row, live }
+    }
+
+    // Whether the put is live and sets a value, so that nothing before it matters.
+    pub fn is_set(&self) -> bool
+        ensures { result ≡ true → IsSet self.now }
+    {
+        match &self.row.change {
+            Change::Set(_) => self.live,
+            Change::Add(_) => false,
+        }
     }
 
     // The value after this put, where it is live.
@@ -140,23 +150,28 @@ fn refresh_one(var: u32, value: Value, q: &mut ReadRow, gives: &mut Vec<GiveRow>
     }
 }
 
-// Gives each of the reads the hit that it has now, where it was last given another one, and tells which were given.
+// Gives each of the first reads, so many, the hit that it has now, where it was last given another one, and tells which
+// were given.
 pub fn refresh(
     var: u32,
     puts: &[Held],
     base: Value,
     reads: &mut [ReadRow],
+    many: usize,
     gives: &mut Vec<GiveRow>,
 )
     requires puts { IsInOrder held_key puts.now }
     requires reads { IsInOrder read_key reads.old }
     requires turns { HaveTurns reads.old }
-    requires room { vec_len gives.old + length reads.old ≤ vec_capacity gives.old }
-    ensures reads { reads.new ≡ map (fresh_read (seen_by puts.now base)) reads.old }
-    ensures gives { gives.new.items ≡ gives.old.items ++ changed_of var (seen_by puts.now base) reads.old }
+    requires many { many ≤ length reads.old }
+    requires room { vec_len gives.old + many ≤ vec_capacity gives.old }
+    ensures reads { reads.new ≡ map (fresh_read (seen_by puts.now base)) (take many reads.old) ++ drop many reads.old }
+    ensures gives { gives.new.items ≡
+        gives.old.items ++ changed_of var (seen_by puts.now base) (take many reads.old) }
 {
     let mut seen = Seen { at: 0, value: base };
-    for q in reads.iter_mut() {
+    for at in 0..many {
+        let q = &mut reads[at];
         seen = advance(puts, seen, Line::At(q.stamp));
         refresh_one(var, seen.value, q, gives);
     }

@@ -1,7 +1,8 @@
 ghost use Rattle.std.specs.Prelude.{◌≡◌, ◌+◌, ◌≤◌, ◌==◌, if◌then◌else◌, None, Some};
-ghost use Rattle.std.specs.Prelude.{◌∷◌, [], ◌++◌, false, filter, length, map, take, drop, vec_len};
+ghost use Rattle.std.specs.Prelude.{◌∷◌, [], ◌++◌, ◌<◌, suc, true, false, filter, length, map, take, drop, vec_len};
+ghost use Rattle.std.specs.Prelude.{slice_index_or};
 ghost use Rattle.std.specs.Prelude.{vec_capacity, IfOk, OnOk, OnErr};
-ghost use Rattle.std.specs.List.{All};
+ghost use Rattle.std.specs.List.{All, AllByRecursion};
 ghost use Rattle.std.specs.Option.{option_to_list};
 ghost use Rattle.pm_base.specs.Stamps.{is_below, stamp_lt};
 ghost use Rattle.pm_periods.specs.Records.{HaveTurns, after_cut, after_put, after_watch, changed_of, cut_row};
@@ -9,10 +10,10 @@ ghost use Rattle.pm_periods.specs.Records.{empty_record, first_read, fresh_read,
 ghost use Rattle.pm_periods.specs.Records.{gives_of_watch, kept_of, last_give, read_stays, record_value, trimmed};
 ghost use Rattle.pm_periods.specs.Records.{with_parts};
 ghost use Rattle.pm_periods.specs.Rows.{IsInOrder, read_key};
-ghost use Rattle.pm_periods.specs.Walks.{CannotSee, cut_is_kept, held_key, held_stays, seen_by, withdrawn_at};
+ghost use Rattle.pm_periods.specs.Walks.{CannotSee, IsSet, SeesSet, cut_is_kept, held_key, held_stays, seen_by, withdrawn_at};
 
 use crate::held::{Held, give, hit_in, raise_base, refresh, seen_at};
-use crate::rows::{RowKey, add, has, number_place, place};
+use crate::rows::{Row, RowKey, add, has, number_place, place};
 use pm_base::{CutRow, GiveRow, Line, List, Memory, Num, PutRow, ReadRow, Stamp, Value, Window};
 use std::alloc::Global;
 use std::marker::Model;
@@ -65,7 +66,9 @@ impl VarRecord {
         }
         let held = Held::beside(self.cuts.as_slice(), row);
         let after = reads_up_to(self.reads.as_slice(), row.stamp);
-        let mut gives = Vec::with_capacity(alloc, self.reads.len() - after)?;
+        let behind = place(self.puts.as_slice(), row.key());
+        let many = before_set(self.reads.as_slice(), after, self.puts.as_slice(), behind);
+        let mut gives = Vec::with_capacity(alloc, many)?;
         add(&mut self.puts, held)?;
         let reads = &mut self.reads;
         refresh_from(
@@ -74,6 +77,7 @@ impl VarRecord {
             self.base,
             reads,
             after,
+            many,
             &mut gives,
         );
         Ok(List::from_vec(gives))
@@ -92,7 +96,8 @@ impl VarRecord {
         }
         let named = number_place(self.puts.as_slice(), num);
         let after = reads_without(self.reads.as_slice(), self.puts.as_slice(), named);
-        let mut gives = Vec::with_capacity(alloc, self.reads.len() - after)?;
+        let many = before_next_set(self.reads.as_slice(), after, self.puts.as_slice(), named);
+        let mut gives = Vec::with_capacity(alloc, many)?;
         add(&mut self.cuts, CutRow { num, stamp })?;
         withdraw(&mut self.puts, named);
         let reads = &mut self.reads;
@@ -102,6 +107,7 @@ impl VarRecord {
             self.base,
             reads,
             after,
+            many,
             &mut gives,
         );
         Ok(List::from_vec(gives))
@@ -220,26 +226,96 @@ fn first_give(var: u32, row: &ReadRow) -> Option<GiveRow>
     }
 }
 
-// Refreshes the reads from that place on.
+// The place of the first live put from that place on that sets a value; not below the length where there is none.
+fn next_set(puts: &[Held], from: usize) -> usize
+    ensures { (d : Held) → result < length puts.now → (from ≤ result) × IsSet (slice_index_or puts.now result d) }
+{
+    let mut at = from;
+    while at < puts.len() {
+        if puts[at].is_set() {
+            return at;
+        }
+        at += 1;
+    }
+    at
+}
+
+// How many of the reads don't stand after the stamp: those behind them do.
+#[tactic(auto, using(crate::proofs::Receipts::later_reads, crate::proofs::Receipts::none_later))]
+fn first_after(reads: &[ReadRow], stamp: Stamp) -> usize
+    requires { IsInOrder read_key reads.now }
+    ensures within { result ≤ length reads.now }
+    ensures later { AllByRecursion (λ q. stamp_lt stamp q.stamp ≡ true) (drop result reads.now) }
+{
+    let mut at = reads_up_to(reads, stamp);
+    while at < reads.len() {
+        if stamp.is_before(&reads[at].stamp) {
+            return at;
+        }
+        at += 1;
+    }
+    at
+}
+
+// How many of the reads, in order, don't see a value that a live put sets from that place on.
+#[tactic(auto, using(crate::proofs::Receipts::seen_set, crate::proofs::Receipts::none_later))]
+fn not_set(reads: &[ReadRow], puts: &[Held], from: usize) -> usize
+    requires { IsInOrder read_key reads.now }
+    ensures within { result ≤ length reads.now }
+    ensures later { AllByRecursion (SeesSet puts.now from) (drop result reads.now) }
+{
+    let set = next_set(puts, from);
+    if set >= puts.len() {
+        return reads.len();
+    }
+    first_after(reads, puts[set].row.stamp)
+}
+
+// So many of the reads from a place on.
+fn before_set(reads: &[ReadRow], after: usize, puts: &[Held], from: usize) -> usize
+    requires order { IsInOrder read_key reads.now }
+    requires after { after ≤ length reads.now }
+    ensures within { after + result ≤ length reads.now }
+    ensures later { AllByRecursion (SeesSet puts.now from) (drop result (drop after reads.now)) }
+{
+    not_set(&reads[after..], puts, from)
+}
+
+// So many of the reads from a place on, by the puts behind the one of that place.
+fn before_next_set(reads: &[ReadRow], after: usize, puts: &[Held], at: usize) -> usize
+    requires order { IsInOrder read_key reads.now }
+    requires after { after ≤ length reads.now }
+    ensures within { after + result ≤ length reads.now }
+    ensures later { AllByRecursion (SeesSet puts.now (suc at)) (drop result (drop after reads.now)) }
+{
+    if at >= puts.len() {
+        return reads.len() - after;
+    }
+    before_set(reads, after, puts, at + 1)
+}
+
+// Refreshes so many reads from that place on.
 fn refresh_from(
     var: u32,
     puts: &[Held],
     base: Value,
     reads: &mut Vec<ReadRow>,
     after: usize,
+    many: usize,
     gives: &mut Vec<GiveRow>,
 )
     requires puts { IsInOrder held_key puts.now }
     requires reads { IsInOrder read_key reads.old.items }
     requires turns { HaveTurns reads.old.items }
-    requires within { after ≤ length reads.old.items }
-    requires room { vec_len gives.old + length reads.old.items ≤ vec_capacity gives.old + after }
+    requires within { after + many ≤ length reads.old.items }
+    requires room { vec_len gives.old + many ≤ vec_capacity gives.old }
     ensures reads { reads.new.items ≡ take after reads.old.items ++
-        map (fresh_read (seen_by puts.now base)) (drop after reads.old.items) }
+        (map (fresh_read (seen_by puts.now base)) (take many (drop after reads.old.items)) ++
+        drop many (drop after reads.old.items)) }
     ensures gives { gives.new.items ≡
-        gives.old.items ++ changed_of var (seen_by puts.now base) (drop after reads.old.items) }
+        gives.old.items ++ changed_of var (seen_by puts.now base) (take many (drop after reads.old.items)) }
 {
-    refresh(var, puts, base, &mut reads[after..], gives);
+    refresh(var, puts, base, &mut reads[after..], many, gives);
 }
 
 // Drops the puts below the line.
