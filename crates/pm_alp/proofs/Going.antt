@@ -1,6 +1,6 @@
 -- What the calls on kept steps say, as what an agent does.
-use Rattle.std.proofs.Common.{◌≡◌, refl, sym, ap, ◌∙◌, subst, ℕ, ◌+◌, ◌<◌, ◌≤◌, ◌^◌, nat_le, Bool, true, false}
-use Rattle.std.proofs.Common.{if◌then◌else◌, ℤ, List, [], ◌∷◌, ◌++◌, length, Option, Some, None, IfSome, arith}
+use Rattle.std.proofs.Common.{◌≡◌, refl, sym, ap, ◌∙◌, subst, ℕ, ◌+◌, ◌-◌, ◌<◌, ◌≤◌, ◌==◌, ◌^◌, nat_le, Bool}
+use Rattle.std.proofs.Common.{true, false, if◌then◌else◌, ℤ, List, [], ◌∷◌, ◌++◌, drop, length, Option, Some, None, IfSome, arith}
 use Rattle.std.proofs.Common.{append-nil, append_assoc}
 use Rattle.std.proofs.lemmas.Bool.Decides.{nat_tests}
 use Rattle.pm_base.specs.declared.rows.Act.{Act}
@@ -22,19 +22,25 @@ use Rattle.pm_saved.specs.declared.kept.KeptStep.{KeptStep}
 use Rattle.pm_saved.specs.declared.spot.Spot.{Spot as Place}
 use Rattle.pm_alp.specs.Agents.{Actor, Sends, act_of, act_sends, asking, first_sends, go_on, kept_in, next_seq}
 use Rattle.pm_alp.specs.Agents.{next_wake, no_sends, nums_of, puts_of, wake_of, went_on}
-use Rattle.pm_alp.specs.States.{AreTimely, HasMoved, IsReady, agent_of, asked, awaited_at, sensed, written_at}
+use Rattle.pm_alp.specs.States.{AreTimely, AreTold, HasMoved, IsReady, agent_of, asked, awaited_at, sensed}
+use Rattle.pm_alp.specs.States.{told_before, written_at}
 use Rattle.pm_alp.specs.declared.agent.Agent.{Agent}
 use Rattle.pm_alp.specs.declared.agent.Awaited.{Awaited}
 use Rattle.pm_alp.specs.declared.state.State.{State}
 use Rattle.pm_alp.proofs.Places.{spot-steps, spot-written, timely-append, timely-as, timely-last-as}
+use Rattle.pm_alp.proofs.Told.{filled-told, told-back, told-filled, told-first, told-more, told-none}
 
 -- a state, by its parts
-abbrev pub state : Kept → Option Awaited → ℕ → State
-state k w n = record { saved = k; awaited = w; seq = n }
+abbrev pub state : Kept → List (List Hit) → Option Awaited → ℕ → State
+state k t w n = record { saved = k; told = t; awaited = w; seq = n }
 
 -- its agent, by its parts
 abbrev agent : Kept → Option Awaited → ℕ → Agent
-agent k w n = agent_of (state k w n)
+agent k w n = agent_of (state k [] w n)
+
+-- the state with these kept steps, and these answers beside them
+abbrev pub keeping : State → Kept → List (List Hit) → State
+keeping s k t = record s { saved = k; told = t }
 
 -- nothing happened
 pub stayed : (s : State) (out : List Message) (n : ℕ) → IsReady s → HasMoved n (no_sends (agent_of s)) s s out out
@@ -55,7 +61,7 @@ pub asks : (n : ℕ) (s : Stamp) (q : Query) (old : State) (kept : Kept) (out ou
     (front : List KeptStep) (last : KeptStep) → IsReady old
     → old.saved.steps ≡ front ++ last ∷ [] → kept ≡ with_asked front last (asking n old.seq q) old.saved
     → out' ≡ out ++ message.Ask (record { agent = n; seq = old.seq }) s q ∷ []
-    → HasMoved 1 (asked n s q front last (agent_of old)) old (state kept None (old.seq + 1)) out out'
+    → HasMoved 1 (asked n s q front last (agent_of old)) old (state kept old.told None (old.seq + 1)) out out'
 asks n s q old kept out out' front last h e k o = record {
   agent = ap (λ z. agent z None (old.seq + 1)) k;
   sent = o;
@@ -66,6 +72,9 @@ asks n s q old kept out out' front last h e k o = record {
         (subst AreTimely e h.timely));
     soon = tt;
     fresh = (let used : kept.used ≡ old.seq + 1 = ap (λ (z : Kept). z.used) k in omega (arith, used));
+    told = subst (λ (z : Kept). AreTold z.steps old.told) (sym k)
+        (told-more front last (record last { senses = last.senses ++ asking n old.seq q ∷ [] })
+        (asking n old.seq q ∷ []) old.told refl (subst (λ (z : List KeptStep). AreTold z old.told) e h.told));
   };
 }
 
@@ -97,8 +106,8 @@ seq_high false n = omega arith
 
 -- the last step acted
 pub acts : (many : ℕ) (a horizon : ℕ) (d : Act) (answer : List (List Hit)) (nums : List Num) (old : State)
-    (kept : Kept) (wake : Option Awaited) (seq : ℕ) (out mid out' : List Message)
-    (front : List KeptStep) (last : KeptStep) (stamp : Stamp) (time : ℕ) → length d.writes ≤ many
+    (kept : Kept) (told : List (List Hit)) (wake : Option Awaited) (seq : ℕ) (out mid out' : List Message)
+    (front : List KeptStep) (last : KeptStep) (stamp : Stamp) (time : ℕ) → length d.writes ≤ many → told ≡ []
     → horizon < 2 ^ 63 → IsReady old → old.saved.steps ≡ front ++ last ∷ [] → answer ≡ answers last.senses
     → stamp ≡ last.stamp → time ≡ later stamp.time d.wait → nums ≡ nums_of a old.seq d.writes
     → kept ≡ with_act front last (record {
@@ -115,8 +124,8 @@ pub acts : (many : ℕ) (a horizon : ℕ) (d : Act) (answer : List (List Hit)) (
     → seq ≡ next_seq (nat_le time horizon) (old.seq + length d.writes)
     → out' ≡ mid ++ wake_of wake
     → HasMoved (many + 1) (act_sends a old.saved.base front last.stamp last.senses old.seq d (nat_le
-    (later last.stamp.time d.wait) horizon)) old (state kept wake seq) out out'
-acts many a horizon d answer nums old kept wake seq out mid out' front last stamp time le low h e ea es et en ek em
+    (later last.stamp.time d.wait) horizon)) old (state kept told wake seq) out out'
+acts many a horizon d answer nums old kept told wake seq out mid out' front last stamp time le bare low h e ea es et en ek em
     ew eq eo =
     let b : Bool = nat_le (later last.stamp.time d.wait) horizon in
     let at : time ≡ later last.stamp.time d.wait = et ∙ ap (λ (s : Stamp). later s.time d.wait) es in
@@ -163,6 +172,7 @@ acts many a horizon d answer nums old kept wake seq out mid out' front last stam
         soon = subst (λ (w : Option Awaited). IfSome w (λ (x : Awaited). x.stamp.time < 2 ^ 63)) (sym the_wake)
             (soon_wake b a last.stamp old.seq d soon);
         fresh = omega (arith, used, fresh, less, the_seq);
+        told = subst (AreTold kept.steps) (sym bare) (told-none kept.steps);
       };
     }
 
@@ -193,15 +203,16 @@ pub went-act : (p : Actor) (d : Act) (front : List KeptStep) (last : KeptStep) (
 went-act p d front last a e = sym (ap (went_on p a.base front last.stamp last.senses a.seq) e)
 
 -- ready with another sense in a place
-pub ready-written : (s : State) (kept : Kept) (at : Place) (p : Spot) (x : KeptSense) → IsReady s
-    → spot_at at s.saved.steps ≡ Some p → kept ≡ with_sense p x s.saved
-    → IsReady (record s { saved = kept })
-ready-written s kept at p x h e k = record {
+pub ready-written : (s : State) (kept : Kept) (told : List (List Hit)) (at : Place) (p : Spot) (x : KeptSense)
+    → IsReady s → spot_at at s.saved.steps ≡ Some p → kept ≡ with_sense p x s.saved
+    → AreTold (p.front ++ sensed p x ∷ p.rest) told → IsReady (keeping s kept told)
+ready-written s kept told at p x h e k t = record {
   timely = subst (λ (z : Kept). AreTimely z.steps) (sym k)
       (timely-as p.front p.rest p.here (sensed p x) refl (subst AreTimely (spot-steps at s.saved.steps p e) h.timely));
   soon = h.soon;
   fresh = (let used : kept.used ≡ s.saved.used = ap (λ
       (z : Kept). z.used) k in let fresh : s.saved.used ≤ s.seq = h.fresh in omega (arith, used, fresh));
+  told = subst (λ (z : Kept). AreTold z.steps told) (sym k) t;
 }
 
 -- what is kept up to a place, with this sense in it
@@ -217,21 +228,24 @@ cut-back at p x k one two e f g =
     g (written_at p x) there ∙ ap (cut_to (written_at p x)) f
 
 -- ready after a rollback
-pub ready-back : (s : State) (kept : Kept) (at : Place) (p : Spot) (x : KeptSense) → IsReady s
-    → spot_at at s.saved.steps ≡ Some p → kept ≡ back_at p x s.saved → IsReady (record s { saved = kept })
-ready-back s kept at p x h e k = record {
+pub ready-back : (s : State) (kept : Kept) (told : List (List Hit)) (at : Place) (p : Spot) (x : KeptSense)
+    → IsReady s → spot_at at s.saved.steps ≡ Some p → kept ≡ back_at p x s.saved
+    → told ≡ told_before (at.step == length s.saved.steps - 1) at.sense s.told → IsReady (keeping s kept told)
+ready-back s kept told at p x h e k t = record {
   timely = subst (λ (z : Kept). AreTimely z.steps) (sym k)
       (timely-last-as p.front p.rest p.here (record p.here { senses = p.before ++ x ∷ []; act = None }) refl
       (subst AreTimely (spot-steps at s.saved.steps p e) h.timely));
   soon = h.soon;
   fresh = (let used : kept.used ≡ s.saved.used = ap (λ
       (z : Kept). z.used) k in let fresh : s.saved.used ≤ s.seq = h.fresh in omega (arith, used, fresh));
+  told = subst (λ (z : Kept). AreTold z.steps told) (sym k)
+      (told-back p x told (told-first s.saved.steps at p s.told told h.told e t));
 }
 
 -- ready after a step began
-pub ready-begun : (s : State) (kept : Kept) (w : Awaited) → IsReady s → s.awaited ≡ Some w
-    → kept ≡ with_step (opened w.stamp) s.saved → IsReady (record s { saved = kept })
-ready-begun s kept w h e k = record {
+pub ready-begun : (s : State) (kept : Kept) (told : List (List Hit)) (w : Awaited) → IsReady s → s.awaited ≡ Some w
+    → kept ≡ with_step (opened w.stamp) s.saved → told ≡ [] → IsReady (keeping s kept told)
+ready-begun s kept told w h e k t = record {
   timely = subst (λ (z : Kept). AreTimely z.steps) (sym k)
       (timely-append s.saved.steps (opened w.stamp ∷ []) h.timely (
         subst (λ (o : Option Awaited). IfSome o (λ
@@ -241,24 +255,38 @@ ready-begun s kept w h e k = record {
   soon = h.soon;
   fresh = (let used : kept.used ≡ s.saved.used = ap (λ
       (z : Kept). z.used) k in let fresh : s.saved.used ≤ s.seq = h.fresh in omega (arith, used, fresh));
+  told = subst (AreTold kept.steps) (sym t) (told-none kept.steps);
+}
+
+-- ready with all answers of the last step
+pub ready-told : (s : State) (told : List (List Hit)) → IsReady s
+    → AtLast s.saved.steps (λ front last. told ≡ s.told ++ drop (length s.told) (answers last.senses))
+    → IsReady (record s { told = told })
+ready-told s told h e = record {
+  timely = h.timely;
+  soon = h.soon;
+  fresh = h.fresh;
+  told = filled-told s.saved.steps told (told-filled s.saved.steps s.told told h.told e);
 }
 
 -- a sense in a place, and nothing more
-pub moved-kept : (s : State) (kept : Kept) (at : Place) (p : Spot) (x : KeptSense) (out : List Message) (n : ℕ)
+pub moved-kept : (s : State) (kept : Kept) (told : List (List Hit)) (at : Place) (p : Spot) (x : KeptSense)
+    (out : List Message) (n : ℕ)
     → IsReady s → spot_at at s.saved.steps ≡ Some p → kept ≡ with_sense p x s.saved
-    → HasMoved n (no_sends (kept_in (agent_of s) p x)) s (record s { saved = kept }) out out
-moved-kept s kept at p x out n h e k = record {
+    → AreTold (p.front ++ sensed p x ∷ p.rest) told
+    → HasMoved n (no_sends (kept_in (agent_of s) p x)) s (keeping s kept told) out out
+moved-kept s kept told at p x out n h e k t = record {
   agent = ap (λ z. agent z s.awaited s.seq) k;
   sent = sym (append-nil out);
   few = omega arith;
-  ready = ready-written s kept at p x h e k;
+  ready = ready-written s kept told at p x h e k t;
 }
 
 -- messages were sent before a move
-pub moved-after : (n : ℕ) (r : Sends) (s new : State) (kept : Kept) (first out mid out' : List Message)
-    → mid ≡ out ++ first → HasMoved n r (record s { saved = kept }) new mid out'
+pub moved-after : (n : ℕ) (r : Sends) (s new : State) (kept : Kept) (told : List (List Hit))
+    (first out mid out' : List Message) → mid ≡ out ++ first → HasMoved n r (keeping s kept told) new mid out'
     → HasMoved n (first_sends first r) s new out out'
-moved-after n r s new kept first out mid out' e h = record {
+moved-after n r s new kept told first out mid out' e h = record {
   agent = h.agent;
   sent = h.sent ∙ (ap (λ z. z ++ r.sent) e ∙ append_assoc out first r.sent);
   few = h.few;
@@ -266,9 +294,9 @@ moved-after n r s new kept first out mid out' e h = record {
 }
 
 -- a move from a state whose kept steps changed first
-pub moved-from : (n : ℕ) (r q : Sends) (s new : State) (kept : Kept) (out out' : List Message) → r ≡ q
-    → HasMoved n r (record s { saved = kept }) new out out' → HasMoved n q s new out out'
-moved-from n r q s new kept out out' e h = record {
+pub moved-from : (n : ℕ) (r q : Sends) (s new : State) (kept : Kept) (told : List (List Hit))
+    (out out' : List Message) → r ≡ q → HasMoved n r (keeping s kept told) new out out' → HasMoved n q s new out out'
+moved-from n r q s new kept told out out' e h = record {
   agent = h.agent ∙ ap (λ (z : Sends). z.agent) e;
   sent = h.sent ∙ ap (λ (z : Sends). out ++ z.sent) e;
   few = h.few;
@@ -276,12 +304,12 @@ moved-from n r q s new kept out out' e h = record {
 }
 
 -- going on from a place, with its sense complete
-pub resumed : (n : ℕ) (p : Actor) (s new : State) (two : Kept) (at : Spot) (x : KeptSense)
+pub resumed : (n : ℕ) (p : Actor) (s new : State) (two : Kept) (told : List (List Hit)) (at : Spot) (x : KeptSense)
     (out out' : List Message) → two ≡ back_at at x s.saved
     → AtLast two.steps (λ front last. last.act ≡ None
-    → HasMoved n (go_on p two.base front last.stamp last.senses s.seq) (record s { saved = two }) new out out')
+    → HasMoved n (go_on p two.base front last.stamp last.senses s.seq) (keeping s two told) new out out')
     → HasMoved n (go_on p s.saved.base at.front at.here.stamp (at.before ++ x ∷ []) s.seq) s new out out'
-resumed n p s new two at x out out' e h =
-    moved-from n _ _ s new two out out' (ap (λ (z : Kept). go_on p z.base at.front at.here.stamp
+resumed n p s new two told at x out out' e h =
+    moved-from n _ _ s new two told out out' (ap (λ (z : Kept). go_on p z.base at.front at.here.stamp
     (at.before ++ x ∷ []) s.seq) e)
     (h at.front (record at.here { senses = at.before ++ x ∷ []; act = None }) (ap (λ (z : Kept). z.steps) e) refl)

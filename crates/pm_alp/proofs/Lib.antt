@@ -1,7 +1,9 @@
 pub mod AgentLaws
 pub mod Backs
+pub mod Committed
 pub mod Few
 pub mod Going
 pub mod Places
 pub mod Puttings
 pub mod Taking
+pub mod Told

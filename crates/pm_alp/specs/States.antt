@@ -1,11 +1,13 @@
 -- An agent as it is held.
-use Rattle.std.specs.Prelude.{◌≡◌, ℕ, ◌+◌, ◌<◌, ◌≤◌, ◌^◌, nat_le, if◌then◌else◌}
-use Rattle.std.specs.Prelude.{List, [], ◌∷◌, ◌++◌, IfSome, Option, Some, None}
+use Rattle.std.specs.Prelude.{◌≡◌, ℕ, ◌+◌, ◌<◌, ◌≤◌, ◌^◌, nat_le, Bool, true, false, if◌then◌else◌}
+use Rattle.std.specs.Prelude.{List, [], ◌∷◌, ◌++◌, take, IfSome, Option, Some, None}
 use Rattle.std.specs.List.{AllByRecursion}
 use Rattle.pm_base.specs.declared.stamp.Stamp.{Stamp}
+use Rattle.pm_base.specs.declared.value.Hit.{Hit}
 use Rattle.pm_base.specs.declared.value.Query.{Query}
 use Rattle.pm_message.specs.declared.Message.{Message}
 use Rattle.pm_message.specs.declared.Message.TheVariants as message
+use Rattle.pm_saved.specs.Senses.{answers}
 use Rattle.pm_saved.specs.Spots.{Spot, spot_at}
 use Rattle.pm_saved.specs.declared.kept.KeptSense.{KeptSense}
 use Rattle.pm_saved.specs.declared.kept.KeptStep.{KeptStep}
@@ -53,11 +55,28 @@ awaited_at agent horizon seq time =
 abbrev pub AreTimely : List KeptStep → Type 0
 AreTimely steps = AllByRecursion (λ (k : KeptStep). k.stamp.time < 2 ^ 63) steps
 
--- the moments that are kept and awaited are within 63 bits, and no sense asked under a number that is still to come
+-- the senses of the last of these steps, these ones where there is none
+abbrev pub last_senses : List KeptSense → List KeptStep → List KeptSense
+last_senses xs [] = xs
+last_senses xs (s ∷ ss) = last_senses s.senses ss
+
+-- these are the answers of the first senses of the last step, where there is a step
+abbrev pub AreTold : List KeptStep → List (List Hit) → Type 0
+AreTold [] told = Unit {0}
+AreTold (s ∷ ss) told = (rest : List (List Hit)) × (answers (last_senses s.senses ss) ≡ told ++ rest)
+
+-- so many of these answers, where they are of the last step
+abbrev pub told_before : Bool → ℕ → List (List Hit) → List (List Hit)
+told_before false n told = []
+told_before true n told = take n told
+
+-- the moments that are kept and awaited are within 63 bits, no sense asked under a number that is still to come, and
+-- the answers that stand beside the steps are those of the last one's first senses
 pub record IsReady (s : State) : Type 0 where
   pub timely : AreTimely s.saved.steps
   pub soon : IfSome s.awaited (λ (w : Awaited). w.stamp.time < 2 ^ 63)
   pub fresh : s.saved.used ≤ s.seq
+  pub told : AreTold s.saved.steps s.told
 
 -- there is a sense at this place
 abbrev pub IsThere : List KeptStep → Place → Type 0

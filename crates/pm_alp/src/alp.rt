@@ -71,6 +71,7 @@ impl<'a> Alp<'a> {
         };
         let state = State {
             saved: Saved::new(alloc, regs),
+            told: List::new(alloc),
             awaited,
             seq,
         };

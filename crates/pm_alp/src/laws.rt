@@ -1,6 +1,7 @@
 // Laws of the definitions.
 ghost use Rattle.std.specs.Prelude.{◌≡◌, ◌≤◌, Some};
 ghost use Rattle.pm_alp.specs.Agents.{Actor, agent_after, no_agent, no_sends};
+ghost use Rattle.pm_alp.specs.Committed.{CommittedStepsStay, FirstInOrder, OrderStays};
 ghost use Rattle.pm_alp.specs.Laws.{ChangesGoBack, NumbersOnlyRise};
 ghost use Rattle.pm_alp.specs.Sample.{SampleEnds, SampleQueries, SampleRollbacks, SampleSenses};
 ghost use Rattle.pm_alp.specs.declared.agent.Agent.{Agent as TheAgent};
@@ -32,6 +33,22 @@ pub fn numbers_only_rise()
 /// all that came after it is gone, and the writes from its step on are withdrawn before anything else is sent.
 pub fn changes_go_back()
     ensures { ChangesGoBack }
+{}
+
+/// A committed step has acted, and is never touched again. Where nothing that the agent has still to do is below the
+/// line, the entries that the line gives out are of moments below it; and whatever messages are delivered afterwards,
+/// below the line or not, and whatever lines are committed, each message that the agent sends, so each withdrawal of a
+/// rollback too, and each entry that it gives out is of a moment that isn't below the line. (That only steps that have
+/// acted are given out is `a_line_divides_the_steps` of `pm_saved`.)
+pub fn committed_steps_stay()
+    ensures { CommittedStepsStay }
+{}
+
+/// The moments of an agent's kept steps and of its awaited call are its own and never fall: so it is at first, and so
+/// it stays, whatever messages are delivered and whatever lines are committed.
+pub fn moments_stay_in_order()
+    ensures first { FirstInOrder }
+    ensures stays { OrderStays }
 {}
 
 /// Worked rows: steps, and a rollback to the second of three.

@@ -14,7 +14,8 @@ mod tests;
 pub use agent::{Agent, Awaited};
 pub use alp::Alp;
 pub use laws::{
-    an_older_turn_changes_nothing, changes_go_back, no_wake_without_waiting, numbers_only_rise,
-    sample_ends, sample_queries, sample_rollbacks, sample_senses,
+    an_older_turn_changes_nothing, changes_go_back, committed_steps_stay, moments_stay_in_order,
+    no_wake_without_waiting, numbers_only_rise, sample_ends, sample_queries, sample_rollbacks,
+    sample_senses,
 };
 pub use parts::AlpParts;

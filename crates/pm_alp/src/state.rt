@@ -1,12 +1,13 @@
 // What an agent does with its kept steps: it goes on in the last one, or goes back to a sense.
-ghost use Rattle.std.specs.Prelude.{◌≡◌, ◌+◌, ◌<◌, ◌≤◌, ◌^◌, ◌++◌, ◌∷◌, [], nat_le, true, None, IfOk, OnOk, length};
+ghost use Rattle.std.specs.Prelude.{◌≡◌, ◌+◌, ◌-◌, ◌<◌, ◌≤◌, ◌==◌, ◌^◌, ◌++◌, ◌∷◌, [], nat_le, true, None, IfOk, OnOk};
+ghost use Rattle.std.specs.Prelude.{length, take};
 ghost use Rattle.std.specs.Option.{option_to_list};
 ghost use Rattle.pm_base.specs.Layouts.{IsLayout};
 ghost use Rattle.pm_alp.specs.Agents.{act_sends, go_on, next_seq, nums_of, puts_of, wake_of};
 ghost use Rattle.pm_model.specs.Runs.{later};
 ghost use Rattle.pm_step.specs.Steps.{IsRising};
 ghost use Rattle.pm_saved.specs.Spots.{AtSpot};
-ghost use Rattle.pm_alp.specs.States.{HasMoved, IsReady, IsThere, actor_of, agent_of, asked, awaited_at};
+ghost use Rattle.pm_alp.specs.States.{HasMoved, IsReady, IsThere, actor_of, agent_of, asked, awaited_at, told_before};
 ghost use Rattle.pm_saved.specs.Senses.{answers as answers_of};
 ghost use Rattle.pm_saved.specs.Steps.{AtLast, HasGrown};
 
@@ -18,11 +19,14 @@ use pm_saved::{Saved, Spot};
 use pm_step::Next;
 use pm_step::steps::next;
 use std::alloc::Global;
+use std::mem;
 
-// An agent between two messages: what it keeps, the call that it awaits, and how many numbers it has used.
+// An agent between two messages: what it keeps, the answers of the first senses of its last step, for the rule to look
+// at when the step goes on, the call that it awaits, and how many numbers it has used.
 #[derive(Debug, Drop)]
 pub struct State {
     pub saved: Saved,
+    pub told: List<List<Hit>>,
     pub awaited: Option<Awaited>,
     pub seq: u64,
 }
@@ -117,6 +121,7 @@ fn send_wake(
 ) -> Result<(), Memory>
     requires { state.old.seq + 1 < 2 ^ 64 }
     ensures kept { state.new.saved ≡ state.old.saved }
+    ensures told { state.new.told ≡ state.old.told }
     ensures wake { state.new.awaited ≡ awaited_at parts.now.agent parts.now.horizon state.old.seq time }
     ensures seq { state.new.seq ≡ next_seq (nat_le time parts.now.horizon) state.old.seq }
     ensures sent { OnOk result (out.new ≡ out.old ++ wake_of state.new.awaited) }
@@ -157,12 +162,11 @@ fn ask(
     out.push(Message::Ask { num, stamp, query })
 }
 
-// The last step acts, with these answers.
+// The last step acts, with the answers of all its senses.
 fn act(
     alloc: Global,
     state: &mut State,
     parts: &AlpParts<'_>,
-    answers: List<List<Hit>>,
     act: Act,
     out: &mut List<Message>,
 ) -> Result<(), Memory>
@@ -170,7 +174,7 @@ fn act(
     requires horizon { parts.now.horizon < 2 ^ 63 }
     requires rising { IsRising act.writes }
     requires room { state.old.seq + 2 ^ 32 + 1 < 2 ^ 64 }
-    ensures moved { OnOk result (AtLast state.old.saved.steps (λ front last. answers ≡ answers_of last.senses →
+    ensures moved { OnOk result (AtLast state.old.saved.steps (λ front last. state.old.told ≡ answers_of last.senses →
         HasMoved (2 ^ 32 + 1) (act_sends parts.now.agent state.old.saved.base front last.stamp last.senses
         state.old.seq act (nat_le (later last.stamp.time act.wait) parts.now.horizon)) state.old state.new
         out.old out.new)) }
@@ -188,6 +192,7 @@ fn act(
     let count = count(writes);
     let nums = send_puts(alloc, first, stamp, writes, out)?;
     state.seq += count;
+    let answers = mem::replace(&mut state.told, List::new(alloc));
     state.saved.act(nums, answers, act);
     send_wake(state, parts, time, out)
 }
@@ -211,19 +216,38 @@ pub fn go_on(
     let Some(stamp) = state.saved.last() else {
         return Ok(());
     };
-    let answers = state.saved.answers(alloc)?;
+    state.saved.answer_on(alloc, &mut state.told)?;
     let then = next(
         alloc,
         parts.program,
         parts.layout,
         stamp,
         state.saved.regs(),
-        &answers,
+        &state.told,
     )?;
     match then {
         Next::Ask(query) => ask(alloc, state, parts.agent, stamp, query, out),
-        Next::Act(done) => act(alloc, state, parts, answers, done, out),
+        Next::Act(done) => act(alloc, state, parts, done, out),
     }
+}
+
+// Of the answers of the last step's first senses those before this place stay, where it is in the last step; else none.
+pub fn forget(alloc: Global, saved: &Saved, at: Spot, told: &mut List<List<Hit>>)
+    ensures { told.new ≡ told_before (at.step == length saved.now.steps - 1) at.sense told.old }
+{
+    let was = mem::replace(told, List::new(alloc));
+    if at.step == saved.kept().saturating_sub(1) {
+        *told = first_of(was, at.sense);
+    }
+}
+
+// The first answers, so many of them.
+fn first_of(told: List<List<Hit>>, count: usize) -> List<List<Hit>>
+    ensures { result ≡ take count told }
+{
+    let mut answers = told.into_vec();
+    answers.truncate(count);
+    List::from_vec(answers)
 }
 
 // Goes on from this sense, which becomes complete: all that came after it is dropped.
@@ -244,6 +268,7 @@ pub fn resume(
         (s.before ++ record s.sense { complete = true } ∷ []) state.old.seq) state.old state.new out.old out.new)) }
     ensures grown { HasGrown out.old out.new }
 {
+    forget(alloc, &state.saved, at, &mut state.told);
     state.saved.finish(at);
     state.saved.cut_back(at);
     go_on(alloc, state, parts, out)

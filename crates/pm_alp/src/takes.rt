@@ -1,5 +1,5 @@
 // What an agent does with each kind of message.
-ghost use Rattle.std.specs.Prelude.{◌≡◌, ◌+◌, ◌<◌, ◌^◌, OnOk};
+ghost use Rattle.std.specs.Prelude.{◌≡◌, ◌+◌, ◌<◌, ◌^◌, true, OnOk};
 ghost use Rattle.pm_base.specs.Layouts.{IsLayout};
 ghost use Rattle.pm_alp.specs.Agents.{agent_after, on_finish, on_give, on_wake, with_hit};
 ghost use Rattle.pm_alp.specs.States.{HasMoved, IsReady, IsThere, actor_of, agent_of};
@@ -8,7 +8,7 @@ ghost use Rattle.pm_saved.specs.Spots.{AtSpot, find};
 ghost use Rattle.pm_saved.specs.Steps.{HasGrown};
 
 use crate::parts::AlpParts;
-use crate::state::{State, go_on, resume};
+use crate::state::{State, forget, go_on, resume};
 use pm_base::{GiveRow, List, Memory, Num, Query};
 use pm_message::Message;
 use pm_saved::{KeptHit, Spot};
@@ -33,6 +33,7 @@ pub fn on_wake(
 {
     match state.awaited {
         Some(wake) => if num == wake.num {
+            state.told.clear();
             state.saved.begin(alloc, wake.stamp)?;
             go_on(alloc, state, parts, out)
         } else {
@@ -40,6 +41,34 @@ pub fn on_wake(
         },
         None => Ok(()),
     }
+}
+
+// A hit with a new turn, for this complete sense.
+fn give_again(
+    alloc: Global,
+    state: &mut State,
+    parts: &AlpParts<'_>,
+    at: Spot,
+    hit: KeptHit,
+    out: &mut List<Message>,
+) -> Result<(), Memory>
+    requires layout { IsLayout parts.now.layout.now }
+    requires horizon { parts.now.horizon < 2 ^ 63 }
+    requires ready { IsReady state.old }
+    requires there { IsThere state.old.saved.steps at }
+    requires room { state.old.seq + 2 ^ 32 + 1 < 2 ^ 64 }
+    ensures moved { OnOk result (AtSpot state.old.saved.steps at (λ s. s.sense.complete ≡ true → HasMoved (2 ^ 32 + 1)
+        (with_hit (actor_of parts.now) (agent_of state.old) s (record s.sense { hits = add_kept hit s.sense.hits }))
+        state.old state.new out.old out.new)) }
+    ensures grown { HasGrown out.old out.new }
+{
+    if !state.saved.changes(at, hit) {
+        return state.saved.keep(at, hit.var, hit.turn, hit.hit);
+    }
+    forget(alloc, &state.saved, at, &mut state.told);
+    state.saved.keep(at, hit.var, hit.turn, hit.hit)?;
+    state.saved.withdrawn(at, out)?;
+    resume(alloc, state, parts, at, out)
 }
 
 // A hit with a new turn, for this sense.
@@ -61,21 +90,11 @@ fn give_at(
         state.old state.new out.old out.new)) }
     ensures grown { HasGrown out.old out.new }
 {
-    let KeptHit {
-        var,
-        turn,
-        hit: told,
-    } = hit;
-    let complete = state.saved.complete(at);
-    let changes = state.saved.changes(at, hit);
-    state.saved.keep(at, var, turn, told)?;
-    if complete {
-        if !changes {
-            return Ok(());
-        }
-        state.saved.withdrawn(at, out)?;
-        return resume(alloc, state, parts, at, out);
+    if state.saved.complete(at) {
+        return give_again(alloc, state, parts, at, hit, out);
     }
+    forget(alloc, &state.saved, at, &mut state.told);
+    state.saved.keep(at, hit.var, hit.turn, hit.hit)?;
     match state.saved.query(at) {
         Query::One { .. } => resume(alloc, state, parts, at, out),
         Query::Class { .. } => Ok(()),

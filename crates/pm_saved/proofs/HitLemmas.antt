@@ -4,7 +4,7 @@ use Rattle.std.proofs.Common.{Bool, true, false, not, is_some, List, [], ◌∷�
 use Rattle.std.proofs.Common.{slice_get, append_assoc, arith, Option, Some, None, inl, inr}
 use Rattle.std.proofs.lemmas.Bool.{cases_Bool}
 use Rattle.std.proofs.lemmas.Bool.Decides.{Decides-int_eq, nat_tests}
-use Rattle.std.proofs.lemmas.List.{drop_more}
+use Rattle.std.proofs.lemmas.List.{drop-map, drop_more, take_all}
 use Rattle.std.specs.List.{AllByRecursion}
 use Rattle.std.specs.Ordering.{int_eq}
 use Rattle.pm_base.specs.Changes.{value_eq}
@@ -225,3 +225,11 @@ answer-changes k (x ∷ xs) h = elim (cases_Bool (nat_lt k.var x.var)) [
         rw (f, e, ne) (shown_same x.var x.hit (answer (add_kept k xs)) (answer xs) ∙ answer-changes k xs h.1))
   ]
 ]
+
+-- the answers that lacked were added
+pub answers-all : (n i : ℕ) (xs others : List KeptSense) (old all : List (List Hit)) → n ≡ length old
+    → others ≡ drop n xs → length others ≤ i → all ≡ old ++ answers (take i others)
+    → all ≡ old ++ drop (length old) (answers xs)
+answers-all n i xs others old all e o le h =
+    h ∙ (ap (λ z. old ++ answers z) (take_all i others le ∙ (o ∙ ap (λ k. drop k xs) e))
+    ∙ ap (λ z. old ++ z) (sym (drop-map (λ (x : KeptSense). answer x.hits) (length old) xs)))

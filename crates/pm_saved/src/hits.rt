@@ -1,5 +1,5 @@
 // The hits of one sense, in order of variable.
-ghost use Rattle.std.specs.Prelude.{◌≡◌, ◌≤◌, ◌++◌, [], is_some, length, not, slice_get, IfOk, OnOk, OnErr};
+ghost use Rattle.std.specs.Prelude.{◌≡◌, ◌≤◌, ◌++◌, [], drop, is_some, length, not, slice_get, IfOk, OnOk, OnErr};
 ghost use Rattle.pm_saved.specs.Inner.{HitsRise, kept_for, only, place_of, same_hit};
 ghost use Rattle.pm_saved.specs.Senses.{add_kept, answer, answers, hits_eq, kept_hit, kept_turn, shown_before};
 
@@ -122,13 +122,28 @@ fn answer(alloc: Global, hits: &[KeptHit]) -> Result<List<Hit>, Memory>
     Ok(all)
 }
 
-// The answers of these senses, in order.
-pub fn answers(alloc: Global, senses: &[KeptSense]) -> Result<List<List<Hit>>, Memory>
-    ensures { IfOk result (λ l. l ≡ answers senses.now) }
+// The senses from this place on.
+fn from_place(senses: &[KeptSense], at: usize) -> &[KeptSense]
+    ensures { result.now ≡ drop at senses.now }
 {
-    let mut all = List::new(alloc);
-    for sense in senses {
+    if at < senses.len() {
+        &senses[at..]
+    } else {
+        &[]
+    }
+}
+
+// Adds to the answers of the first of these senses, as many as there are, those of the others, in order.
+pub fn answer_on(
+    alloc: Global,
+    senses: &[KeptSense],
+    all: &mut List<List<Hit>>,
+) -> Result<(), Memory>
+    ensures { OnOk result (all.new ≡ all.old ++ drop (length all.old) (answers senses.now)) }
+{
+    let others = from_place(senses, all.len());
+    for sense in others {
         all.push(answer(alloc, sense.hits.as_slice())?)?;
     }
-    Ok(all)
+    Ok(())
 }

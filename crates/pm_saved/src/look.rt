@@ -111,9 +111,20 @@ impl Saved {
     pub fn answers(&self, alloc: Global) -> Result<List<List<Hit>>, Memory>
         ensures { IfOk result (λ l. AtLast self.now.steps (λ front last. l ≡ answers last.senses)) }
     {
+        let mut all = List::new(alloc);
+        self.answer_on(alloc, &mut all)?;
+        Ok(all)
+    }
+
+    /// Adds to the answers of the last step's first senses, as many as the list has, those of its other senses, in
+    /// order. After `Memory` some of them may have been added.
+    pub fn answer_on(&self, alloc: Global, all: &mut List<List<Hit>>) -> Result<(), Memory>
+        ensures { OnOk result (AtLast self.now.steps (λ front last.
+            all.new ≡ all.old ++ drop (length all.old) (answers last.senses))) }
+    {
         match self.steps.back() {
-            Some(held) => hits::answers(alloc, held.senses.as_slice()),
-            None => Ok(List::new(alloc)),
+            Some(held) => hits::answer_on(alloc, held.senses.as_slice(), all),
+            None => Ok(()),
         }
     }
 

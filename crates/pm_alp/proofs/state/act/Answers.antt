@@ -18,9 +18,9 @@ returns-clause-moved c = on_ok c.send_wake.result _ _
     let time = c.saturating_add-time.result in
     let count = c.count-count.ensures.count ∙ ap length c.as_slice-writes.ensures in
     let few : length d.writes ≤ 2 ^ 32 = omega (arith, c.count-count.ensures.few, count) in
-    acts (2 ^ 32) a horizon d c.args.answers c.in_ok-nums.nums old new.saved new.awaited new.seq c.args.out.now
-    c.send_puts.new.out c.send_wake.new.out front last stamp time
-    few c.requires.horizon c.requires.ready e ea (same_Some stamp last.stamp
+    acts (2 ^ 32) a horizon d c.replace-answers.result c.in_ok-nums.nums old new.saved new.told new.awaited new.seq
+    c.args.out.now c.send_puts.new.out c.send_wake.new.out front last stamp time
+    few (c.send_wake.ensures.told ∙ (c.replace-answers.ensures.after ∙ c.new.ensures)) c.requires.horizon c.requires.ready e (c.replace-answers.ensures.value ∙ ea) (same_Some stamp last.stamp
     (c.in-Some.ensures.step front last e)) c.saturating_add-time.ensures
     (c.in_ok-nums.ensures.nums ∙ ap (nums_of a old.seq) c.as_slice-writes.ensures)
     (c.send_wake.ensures.kept ∙ c.act.ensures front last e)
