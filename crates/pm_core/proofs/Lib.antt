@@ -2,7 +2,10 @@ pub mod Carries
 pub mod Committing
 pub mod Delivering
 pub mod FirstLaws
+pub mod FrontLaws
 pub mod Handing
+pub mod Keeping
+pub mod LeastLinks
 pub mod LinkLaws
 pub mod Loops
 pub mod Ordering

@@ -60,7 +60,7 @@ held_clp : (p : Plan) (w : World) (window : Option Line) (to : ℕ) (m : Message
     → held_back w (λ _. window) (process p to) m ≡ false
 held_clp p w window to m lt = ap (λ z. held_back w (λ _. window) z m) (process_clp p to lt)
 
-agent_here : (p : Plan) (to : ℕ) → clps_of p ≤ to → process p to ≡ AtAgent (to - clps_of p)
+pub agent_here : (p : Plan) (to : ℕ) → clps_of p ≤ to → process p to ≡ AtAgent (to - clps_of p)
 agent_here p to le =
     let e : to ≡ clps_of p + (to - clps_of p) = omega arith in
     ap (process p) e ∙ process_agent p (to - clps_of p)
@@ -71,7 +71,7 @@ held_agent p w window to m le = ap (λ z. held_back w (λ _. window) z m) (agent
 
 -- ---- what stands in a link
 
-between_waiting : (p : Plan) (t f : ℕ) (ls : List Lane)
+pub between_waiting : (p : Plan) (t f : ℕ) (ls : List Lane)
     → between (process p t) (process p f) (links_of p ls) ≡ waiting t f ls
 between_waiting p t f [] = refl
 between_waiting p t f (l ∷ ls) =
@@ -82,7 +82,7 @@ between_waiting p t f (l ∷ ls) =
     ]
 
 -- who has sent a message has a number
-between_number : (p : Plan) (t : ℕ) (x : Process) (ls : List Lane) (m : Message) (rest : List Message)
+pub between_number : (p : Plan) (t : ℕ) (x : Process) (ls : List Lane) (m : Message) (rest : List Message)
     → between (process p t) x (links_of p ls) ≡ m ∷ rest → (f : ℕ) × (x ≡ process p f)
 between_number p t x [] m rest e = absurd (cc)
 between_number p t x (l ∷ ls) m rest e = elim (cases_Bool (is_link (process p t) x (link_of p l))) [

@@ -1,7 +1,9 @@
 pub mod Commits
 pub mod Firsts
+pub mod Leasts
 pub mod Links
 pub mod Mails
 pub mod Picks
+pub mod Rows
 pub mod Steps
 pub mod Views

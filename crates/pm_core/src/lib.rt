@@ -5,6 +5,7 @@
 mod arrivals;
 mod commits;
 mod firsts;
+mod fronts;
 mod laws;
 mod plan_links;
 mod play;
@@ -14,7 +15,7 @@ mod tree;
 mod world;
 
 pub use firsts::processes;
-pub use laws::{links_are_the_worlds, rows_of_links};
+pub use laws::{links_are_the_worlds, rows_of_links, rows_of_play};
 pub use plan_links::links;
 pub use play::Played;
 pub use process::Process;

@@ -7,6 +7,8 @@ ghost use Rattle.pm_sim.specs.Worlds.{handed, least_line, may_commit};
 ghost use Rattle.pm_trace.specs.Merges.{StandsOnce};
 
 mod ahead;
+mod kept;
+mod leasts;
 mod picks;
 
 use crate::arrivals::Processes;

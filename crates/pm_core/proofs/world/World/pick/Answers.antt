@@ -1,9 +1,8 @@
-use Rattle.std.proofs.Common.{◌≡◌, ◌∙◌, None, Some, ap, false, refl, subst, sym, true, ℕ, ◌-◌}
+use Rattle.std.proofs.Common.{◌≡◌, ◌∙◌, None, Some, false, refl, subst, sym, ◌-◌}
 use Rattle.pm_plan.specs.Plans.{IsValid}
 use Rattle.pm_mail.specs.Links.{first_of, waiting}
 use Rattle.pm_sim.specs.Reached.{Reached}
-use Rattle.pm_sim.specs.Ready.{held_back}
-use Rattle.pm_sim.specs.Worlds.{clps_of, home, process}
+use Rattle.pm_sim.specs.Worlds.{clps_of, home}
 use Rattle.pm_core.specs.Mails.{links_of}
 use Rattle.pm_core.specs.Picks.{IsFree, IsLeast}
 use Rattle.pm_core.specs.Views.{WorldView}
