@@ -6,7 +6,8 @@ use Rattle.pm_base.specs.declared.rows.Entry.{Entry}
 use Rattle.pm_plan.specs.declared.plan.Plan.{Plan}
 use Rattle.pm_model.proofs.Retired.{turn-none}
 use Rattle.pm_model.proofs.Rises.{due-there}
-use Rattle.pm_model.proofs.Turns.{took, rest-done, rest-step}
+use Rattle.pm_model.proofs.Turns.{least-found, took, rest-done, rest-step}
+use Rattle.pm_model.specs.declared.AgentState.{AgentState}
 use Rattle.pm_model.specs.declared.State.{State}
 use Rattle.pm_model.specs.Runs.{IsRetired, IsTimely, least_stamp, rest, sequential_turn}
 use Rattle.pm_model.proofs.Choices.{option-cases}
@@ -33,6 +34,15 @@ turned-left plan s r (Ok (Some e)) ok t = rest-step plan s (record { entry = e; 
 
 cons-not : {e : Entry} {es : List Entry} → e ∷ es ≡ [] → ⊥
 cons-not h = cc h
+
+-- where all agents are retired none acts next
+pub retired-none : (agents : List AgentState) → AllByRecursion IsRetired agents → least_stamp 0 agents ≡ None
+retired-none agents all = elim (option-cases (least_stamp 0 agents)) [
+  | inl none ↦ none
+  | inr q ↦
+      let (i, a, n, g, t) = least-found 0 agents q.0 q.1 in
+      absurd (due-there agents i a q.0.time g t all)
+]
 
 -- nothing is left where no agent acts next
 pub none-left : (plan : Plan) (s : State) → least_stamp 0 s.agents ≡ None → rest plan s ≡ []

@@ -1,13 +1,16 @@
-ghost use Rattle.std.specs.Prelude.{◌≡◌, ◌∷◌, ◌↔◌, true, Some, None, [], IfOk, OnErr, MatchOption};
+ghost use Rattle.std.specs.Prelude.{◌≡◌, ◌∷◌, ◌↔◌, ◌<◌, true, Some, None, [], IfOk, OnErr, MatchOption};
+ghost use Rattle.std.specs.Prelude.{length, slice_get, option_map, option_and_then};
 ghost use Rattle.std.specs.List.{AllByRecursion};
 ghost use Rattle.pm_plan.specs.Limits.{IsWithinLimits};
-ghost use Rattle.pm_model.specs.Runs.{rest, sequential_run, sequential_start, sequential_turn, IsRetired, IsTimely};
+ghost use Rattle.pm_model.specs.Runs.{least_stamp, rest, sequential_run, sequential_start, sequential_turn};
+ghost use Rattle.pm_model.specs.Runs.{IsRetired, IsTimely};
+ghost use Rattle.pm_model.specs.declared.AgentState.{AgentState as TheAgent};
 ghost use Rattle.pm_seq.specs.Queues.{IsRunning};
 
 use crate::queue::{advance, least_stamp, queue_of};
 use crate::start::{due, sequential_start};
 use crate::turn::{change_all, deed, later};
-use pm_base::{Act, Entry, Memory, Stamp};
+use pm_base::{Act, Entry, List, Memory, Stamp, Value};
 use pm_model::{AgentState, Deed, State};
 use pm_plan::Plan;
 use std::alloc::Global;
@@ -121,5 +124,36 @@ impl<'a> Seq<'a> {
         ensures limits { IsWithinLimits self.now.plan }
     {
         self.due.is_empty()
+    }
+
+    /// The stamp of the next step; none exactly where all agents are retired. It takes no memory.
+    pub fn next_stamp(&self) -> Option<Stamp>
+        ensures stamp { result ≡ least_stamp 0 self.now.state.agents }
+        ensures retired { (result ≡ None) ↔ AllByRecursion IsRetired self.now.state.agents }
+    {
+        least_stamp(self.state.agents.as_slice(), &self.due)
+    }
+
+    /// The values of the variables, by number.
+    pub fn values(&self) -> &List<Value>
+        ensures { result.now ≡ self.now.state.values }
+    {
+        &self.state.values
+    }
+
+    /// The registers of an agent.
+    pub fn regs(&self, agent: u32) -> &List<i64>
+        requires { agent < length self.now.state.agents }
+        ensures { Some result.now ≡ option_map (λ (a : TheAgent). a.regs) (slice_get self.now.state.agents agent) }
+    {
+        &self.state.agents.as_slice()[agent as usize].regs
+    }
+
+    /// The time of an agent's next step; none exactly where it is retired.
+    pub fn next_time(&self, agent: u32) -> Option<u64>
+        requires { agent < length self.now.state.agents }
+        ensures { result ≡ option_and_then (λ (a : TheAgent). a.next) (slice_get self.now.state.agents agent) }
+    {
+        self.state.agents.as_slice()[agent as usize].next
     }
 }
