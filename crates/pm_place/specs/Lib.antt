@@ -1,0 +1,6 @@
+pub mod Accesses
+pub mod Bests
+pub mod Examples
+pub mod Placings
+pub mod Tallies
+pub mod Texts
