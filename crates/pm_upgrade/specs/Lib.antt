@@ -1,0 +1,4 @@
+pub mod Drafts
+pub mod Documents
+pub mod Rows
+pub mod Tables
