@@ -1,5 +1,5 @@
 mod Numbers
-mod Lines
-mod Texts
+pub mod Lines
+pub mod Texts
 pub mod Orders
 mod Rising

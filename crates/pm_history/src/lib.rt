@@ -18,3 +18,4 @@ pub use laws::{faulty_texts_are_no_journals, printed_journals_read_back, worked_
 pub use merging::{merge, worked_merge};
 pub use printing::print;
 pub use reading::read;
+pub use scanning::event;
