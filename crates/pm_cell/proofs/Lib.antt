@@ -1,0 +1,13 @@
+pub mod Sides
+pub mod Coming
+pub mod Machines
+pub mod Lists
+pub mod Merges
+pub mod Posting
+pub mod Instances
+pub mod Rows
+pub mod Runs
+pub mod Merging
+pub mod Commits
+pub mod Waiting
+pub mod Idling

@@ -1,0 +1,6 @@
+pub mod Machines
+pub mod Sides
+pub mod Cores
+pub mod Views
+pub mod Cells
+pub mod Stands
