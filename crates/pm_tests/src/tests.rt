@@ -1,5 +1,6 @@
 ghost use Rattle.std.specs.Prelude.{None};
 
+use crate::modes::{MODES, WRITTEN};
 use crate::rows::{FORAGER_LINES, FORAGERS, ROWS, WHOLE, WRONG};
 use pm_io::{Cue, Failed, FreeGate, MemSink, MemSource, Source};
 use pm_top::{plain, top};
@@ -330,16 +331,24 @@ fn run(alloc: Global, words: &[&str], devices: Devices) -> Result<Left, AllocErr
     left_of(report.status, out, err)
 }
 
-/// The same with one word and devices that never fail.
+/// The same with devices that never fail.
+fn run_bytes(alloc: Global, words: &[&str], input: Vec<u8>) -> Result<Left, AllocError> {
+    let devices = Devices {
+        input: MemSource::new(input, Vec::new(alloc)),
+        out: MemSink::new(alloc, Vec::new(alloc)),
+        err: MemSink::new(alloc, Vec::new(alloc)),
+    };
+    run(alloc, words, devices)
+}
+
+/// The same with a text.
+fn run_words(alloc: Global, words: &[&str], text: &str) -> Result<Left, AllocError> {
+    run_bytes(alloc, words, Vec::from_slice(alloc, text.as_bytes())?)
+}
+
+/// The same with one word.
 fn run_text(alloc: Global, word: &str, text: &str) -> Result<Left, AllocError> {
-    let devices = devices_of(
-        alloc,
-        text,
-        Vec::new(alloc),
-        Vec::new(alloc),
-        Vec::new(alloc),
-    )?;
-    run(alloc, &[word], devices)
+    run_words(alloc, &[word], text)
 }
 
 /// The name of the first case that left something else.
@@ -530,6 +539,30 @@ fn scenarios_and_what_they_print(rt: HostRuntime) -> Result<(), Fail> {
     for (name, mode, text, status, written, told) in ROWS {
         let left = run_text(rt.alloc(), mode, text)?;
         assert!(rt; left.is(*status, written, told), "{name}");
+    }
+    Ok(())
+}
+
+/// What the modes beside the runs print.
+#[test]
+fn modes_and_what_they_print(rt: HostRuntime) -> Result<(), Fail> {
+    for (name, words, text, status, written, told) in MODES {
+        let left = run_words(rt.alloc(), words, text)?;
+        assert!(rt; left.is(*status, written, told), "{name}");
+    }
+    Ok(())
+}
+
+/// The scenario that a mode writes, and what its sequential run prints.
+#[test]
+fn scenarios_that_are_written_and_their_runs(rt: HostRuntime) -> Result<(), Fail> {
+    let alloc = rt.alloc();
+    for (name, words, text, trace) in WRITTEN {
+        let made = run_words(alloc, words, text)?;
+        assert_eq!(rt; made.status, 0, "{name}");
+        let input = Vec::from_slice(alloc, made.out.bytes())?;
+        let left = run_bytes(alloc, &["seq"], input)?;
+        assert!(rt; left.is(0, trace, ""), "{name}");
     }
     Ok(())
 }

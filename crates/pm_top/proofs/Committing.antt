@@ -40,7 +40,7 @@ prefix-short old new xs ys a some =
     )
 
 -- a count that is below its type's end is exact
-count-is : (xs : List Entry) → length xs < 2 ^ 64 → (counted_on no_counts xs).steps ≡ length xs
+pub count-is : (xs : List Entry) → length xs < 2 ^ 64 → (counted_on no_counts xs).steps ≡ length xs
 count-is xs few =
     let plain : 0 + length xs ≡ length xs = omega arith in
     ap counted plain ∙ min-eq_left (omega (arith, few))

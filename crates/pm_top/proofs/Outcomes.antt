@@ -1,5 +1,5 @@
 -- Which outcome an ending comes of.
-use Rattle.std.proofs.Common.{◌≡◌, ◌≢◌, refl}
+use Rattle.std.proofs.Common.{◌≡◌, ◌≢◌, refl, ℕ}
 use Rattle.pm_kernel.specs.declared.ran.Outcome.{Outcome}
 use Rattle.pm_kernel.specs.declared.ran.Outcome.TheVariants as outcome
 use Rattle.pm_scenario.specs.declared.fault.ScenarioFault.{ScenarioFault}
@@ -43,3 +43,15 @@ of-run outcome.Done = tt
 of-run outcome.BudgetSpent = tt
 of-run outcome.WriteFault = tt
 of-run outcome.Memory = tt
+
+pub not-retired : (o : Outcome) (agent : ℕ) → ending_of o ≢ ending.Retired agent
+not-retired outcome.Done agent = λ e. cc e
+not-retired outcome.BudgetSpent agent = λ e. cc e
+not-retired outcome.WriteFault agent = λ e. cc e
+not-retired outcome.Memory agent = λ e. cc e
+
+pub not-illegal : (o : Outcome) (line : ℕ) → ending_of o ≢ ending.Illegal line
+not-illegal outcome.Done line = λ e. cc e
+not-illegal outcome.BudgetSpent line = λ e. cc e
+not-illegal outcome.WriteFault line = λ e. cc e
+not-illegal outcome.Memory line = λ e. cc e

@@ -1,20 +1,15 @@
 -- A call that ends at its words.
 use Rattle.std.proofs.Common.{◌≡◌, ◌≢◌, inl, inr, ℕ, List, [], Option, Some, None, IfSome, refl}
 use Rattle.pm_base.specs.declared.run.Event.{Event}
-use Rattle.pm_top.specs.Headline.{Call, IsComplete, IsServed, IsTold, SourceSight}
+use Rattle.pm_top.specs.Headline.{Call, HasRun, IsCausedIn, IsComplete, IsServed, IsTold, SourceSight, given}
 use Rattle.pm_top.specs.Printed.{PrintedOf}
+use Rattle.pm_top.specs.Readings.{IsUnfit}
 use Rattle.pm_top.specs.Speech.{SinkSight}
 use Rattle.pm_top.specs.declared.outcome.Ending.{Ending}
 use Rattle.pm_top.specs.declared.outcome.Ending.TheVariants as ending
 use Rattle.pm_words.specs.declared.settings.Settings.{Settings}
-use Rattle.pm_top.proofs.Complete.{Accepts, words-not}
-use Rattle.pm_top.proofs.Prints.{printed-none, quits-memory}
-use Rattle.pm_words.specs.declared.settings.Mode.TheVariants as mode
-
-memory-not : Accepts ending.Memory → ⊥
-memory-not (inl h) = cc h
-memory-not (inr (inl h)) = cc h
-memory-not (inr (inr h)) = cc h
+use Rattle.pm_top.proofs.Prints.{none-where, quits-memory}
+use Rattle.pm_words.specs.Words.{reads}
 
 -- what holds is not changed by what the input held
 pub kept : {P : List ℕ → Type 0} (held : Option (List ℕ)) → ((b : List ℕ) → P b) → IfSome held P
@@ -44,7 +39,7 @@ stopped s e i o before after = record {
   err_after = after;
 }
 
-each : (P : Settings → Type 0) (s : Option Settings) → ((t : Settings) → P t) → IfSome s P
+pub each : (P : Settings → Type 0) (s : Option Settings) → ((t : Settings) → P t) → IfSome s P
 each P None h = tt
 each P (Some t) h = h t
 
@@ -52,15 +47,11 @@ module _ (i : SourceSight) (o before after : SinkSight) where
   pub words-served : IsTold (stopped None ending.Words i o before after) → IsServed (stopped None ending.Words i o before after)
   words-served told = record {
     printed = tt;
-    journal = record { runs = tt; nothing = λ _. refl; unfit = kept i.held (λ b unfit. refl) };
+    journal = record { runs = tt; nothing = λ _. refl; unfit = tt };
     caused = record {
       words = λ h. refl;
       no_words = λ h. record { ended = inl refl; input = refl; out = refl; journal = refl };
-      refused = λ f h. absurd (cc h);
-      too_long = λ h. absurd (cc h);
-      budget = λ h. absurd (cc h);
-      accepted = λ h. absurd (words-not h);
-      read = λ h. absurd h;
+      by_mode = tt;
       read_fault = λ h. absurd (cc h);
       write_fault = λ h. absurd (cc h);
     };
@@ -68,26 +59,36 @@ module _ (i : SourceSight) (o before after : SinkSight) where
     complete = tt;
   }
 
+  some-caused : (s : Option Settings) (t : Settings) → IsCausedIn t.mode (stopped s ending.Memory i o before after)
+  some-caused s t = record {
+    refused = λ f h. absurd (cc h);
+    too_long = λ h. absurd (cc h);
+    long_input = λ h. absurd (cc h);
+    budget = λ h. absurd (cc h);
+    retired = λ agent h. absurd (cc h);
+    illegal = λ line h. absurd (cc h);
+    accepted = λ h. absurd h;
+    read = λ _ h. absurd h;
+    unread = λ _. (refl, inr refl);
+  }
+
   some-complete : (s : Option Settings) (t : Settings) → IsComplete (stopped s ending.Memory i o before after) t
   some-complete s t = record {
     refuses = λ read memory. absurd (memory refl);
     limits = λ read memory. absurd (memory refl);
-    completes = λ good well. kept i.held (λ b a. inr (inr refl));
-    within = λ good well. kept i.held (λ b a. inr refl);
+    input_limits = λ read memory. absurd (memory refl);
+    completes = λ good well. kept (given t.mode i.held) (λ b a. tt);
+    within = λ good well. kept (given t.mode i.held) (λ b a. inr refl);
   }
 
   pub memory-served : (s : Option Settings) → IsTold (stopped s ending.Memory i o before after) → IsServed (stopped s ending.Memory i o before after)
   memory-served s told = record {
-    printed = each (λ t. PrintedOf t i.held ending.Memory [] o.holds o.holds) s (λ t. printed-none t i.held ending.Memory o.holds quits-memory);
-    journal = record { runs = each (λ t. t.mode ≢ mode.Run → Path (List Event) [] []) s (λ t h. refl); nothing = λ _. refl; unfit = kept i.held (λ b unfit. refl) };
+    printed = each (λ t. PrintedOf t i.held ending.Memory [] o.holds o.holds) s (λ t. none-where (reads t.mode) t i.held ending.Memory o.holds quits-memory);
+    journal = record { runs = each (λ t. (HasRun t.mode → ⊥) → Path (List Event) [] []) s (λ t h. refl); nothing = λ _. refl; unfit = each (λ t. IfSome (given t.mode i.held) (λ b. IsUnfit t.mode b → Path (List Event) [] [])) s (λ t. kept (given t.mode i.held) (λ b unfit. refl)) };
     caused = record {
       words = λ h. absurd (cc h);
       no_words = λ h. record { ended = inr refl; input = refl; out = refl; journal = refl };
-      refused = λ f h. absurd (cc h);
-      too_long = λ h. absurd (cc h);
-      budget = λ h. absurd (cc h);
-      accepted = λ h. absurd (memory-not h);
-      read = λ h. absurd h;
+      by_mode = each (λ t. IsCausedIn t.mode (stopped s ending.Memory i o before after)) s (some-caused s);
       read_fault = λ h. absurd (cc h);
       write_fault = λ h. absurd (cc h);
     };

@@ -13,6 +13,7 @@ use Rattle.pm_model.specs.Runs.{sequential_run}
 use Rattle.pm_model.specs.Traces.{line, trace_text, end_line, trace}
 use Rattle.pm_io.specs.Causes.{AppendsPart, AppendsPrefix}
 use Rattle.pm_io.proofs.Known.{appends-append, appends-none, prefix-part, prefix-none, prefix-after}
+use Rattle.pm_top.specs.Demo.{told_line}
 use Rattle.pm_top.specs.Outputs.{asked_lines, check_line, run_output}
 
 more-some : (xs ys : List ℕ) → 0 < length xs → 0 < length (xs ++ ys)
@@ -32,6 +33,12 @@ check-some p =
 -- no trace is empty
 pub trace-some : (p : Plan) → 0 < length (trace p)
 trace-some p = omega (arith, end-some (length (sequential_run p)), length-append (trace_text p (sequential_run p)) (end_line (length (sequential_run p))))
+
+-- nor the line of a generated run
+pub told-some : (seed steps hits writes sum : ℕ) → 0 < length (told_line seed steps hits writes sum)
+told-some seed steps hits writes sum =
+    let five : length (codes "demo ") ≡ 5 = refl in
+    more-some (codes "demo " ++ decimal seed) _ (more-some (codes "demo ") (decimal seed) (omega (arith, five)))
 
 -- nor the output of an optimistic run
 pub run-some : (asked : Bool) (p : Plan) (j : List Event) → 0 < length (run_output asked p j)

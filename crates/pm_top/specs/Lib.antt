@@ -1,3 +1,4 @@
+pub mod Demo
 pub mod Endings
 pub mod Headline
 pub mod Outputs

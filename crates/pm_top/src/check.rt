@@ -11,7 +11,7 @@ use pm_plan::Plan;
 use std::alloc::Global;
 
 /// Adds a word and a number.
-fn add(line: &mut String, word: &str, n: usize) -> Result<(), Memory>
+pub fn add(line: &mut String, word: &str, n: u64) -> Result<(), Memory>
     ensures { OnOk result (string_bytes line.new ≡ string_bytes line.old ++ (word.now ++ decimal n)) }
 {
     let mut buffer = Buffer::new();
@@ -25,10 +25,10 @@ fn check_line(alloc: Global, plan: &Plan) -> Result<String, Memory>
     ensures { IfOk result (λ s. string_bytes s ≡ check_line plan.now) }
 {
     let mut line = String::new(alloc);
-    add(&mut line, "ok clps ", plan.clps.len())?;
-    add(&mut line, " classes ", plan.classes.len())?;
-    add(&mut line, " vars ", plan.vars.len())?;
-    add(&mut line, " agents ", plan.agents.len())?;
+    add(&mut line, "ok clps ", plan.clps.len() as u64)?;
+    add(&mut line, " classes ", plan.classes.len() as u64)?;
+    add(&mut line, " vars ", plan.vars.len() as u64)?;
+    add(&mut line, " agents ", plan.agents.len() as u64)?;
     line.push_str("\n")?;
     Ok(line)
 }

@@ -2,15 +2,19 @@
 #![tactic(auto)]
 
 mod check;
+mod demo;
 mod laws;
 mod optimistic;
 mod outcome;
 mod program;
 mod reading;
 mod refusals;
+mod replays;
 mod run;
 #[cfg(test)]
 mod tests;
+mod texts;
+mod work;
 
 pub use laws::{worked_endings, worked_outputs, worked_refusals};
 pub use outcome::{Ending, offer, status_of};

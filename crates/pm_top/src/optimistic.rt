@@ -2,6 +2,8 @@
 ghost use Rattle.std.specs.Prelude.{◌≡◌, ◌≢◌, ◌++◌, ◌⊎◌, ◌≤◌};
 ghost use Rattle.std.specs.Io.KnownBytes.{Appends};
 ghost use Rattle.pm_history.specs.Journals.{event_line, journal_text};
+ghost use Rattle.pm_kernel.specs.Counts.{counted_on, no_counts};
+ghost use Rattle.pm_sim.specs.Worlds.{committed};
 ghost use Rattle.pm_io.specs.Causes.{AppendsPart, Rose};
 ghost use Rattle.pm_model.specs.Traces.{end_line};
 ghost use Rattle.pm_plan.specs.Plans.{IsValid};
@@ -118,6 +120,8 @@ pub fn write_optimistic<K: Sink>(
     requires range { IsInRange settings.now.run }
     ensures printed { IsRunPrinted settings.now plan.now (ending_of result.outcome) result.journal
         (K.holds out.old) (K.holds out.new) }
+    ensures counts { result.outcome ≡ Outcome.Done →
+        result.counts ≡ counted_on no_counts (committed plan.now result.journal) }
     ensures cause { result.outcome ≡ Outcome.WriteFault → Rose (K.faults out.old) (K.faults out.new)
         ⊎ Rose (K.stalls out.old) (K.stalls out.new) }
     ensures faults { K.faults out.old ≤ K.faults out.new }

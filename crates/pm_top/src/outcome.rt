@@ -3,7 +3,7 @@ ghost use Rattle.pm_top.specs.Endings.{error_line, status_of};
 ghost use Rattle.pm_top.specs.Headline.{Offers};
 ghost use Rattle.pm_top.specs.Speech.{Speaks};
 
-use crate::refusals::{say, say_refusal};
+use crate::refusals::{say, say_illegal, say_refusal, say_retired};
 use pm_io::{Failed, Sink};
 use pm_scenario::ScenarioFault;
 
@@ -16,8 +16,10 @@ pub enum Ending {
     Words,
     /// The input is no scenario.
     Refused(ScenarioFault),
-    /// The input is longer than a scenario may be.
+    /// The scenario is longer than one may be.
     TooLong,
+    /// The scenario with its journal is longer than that may be.
+    InputTooLong,
     /// The budget of steps is spent, and the run goes on.
     BudgetSpent,
     /// The input failed.
@@ -26,6 +28,10 @@ pub enum Ending {
     WriteFault,
     /// Memory ran out.
     Memory,
+    /// This line of the journal, the first such, is no event's, or of one that may not stand there.
+    Illegal(u64),
+    /// The scenario can't be cut there: this agent makes no further step, and no start is late enough for it.
+    Retired(u32),
 }
 
 /// The status that the program ends with.
@@ -35,11 +41,13 @@ pub fn status_of(ending: &Ending) -> u8
     match ending {
         Ending::Done => 0,
         Ending::Words => 1,
-        Ending::Refused(_) | Ending::TooLong => 2,
+        Ending::Refused(_) | Ending::TooLong | Ending::InputTooLong => 2,
         Ending::BudgetSpent => 3,
         Ending::ReadFault => 4,
         Ending::WriteFault => 5,
         Ending::Memory => 6,
+        Ending::Illegal(_) => 7,
+        Ending::Retired(_) => 8,
     }
 }
 
@@ -60,6 +68,9 @@ fn say_ending<E: Sink>(err: &mut E, ending: &Ending) -> Result<(), Failed>
         Ending::ReadFault => say(err, "pdesmas: the input cannot be read\n"),
         Ending::WriteFault => say(err, "pdesmas: the output cannot be written\n"),
         Ending::Memory => say(err, "pdesmas: out of memory\n"),
+        Ending::InputTooLong => say(err, "pdesmas: the input is longer than 67108864 bytes\n"),
+        Ending::Illegal(line) => say_illegal(err, *line),
+        Ending::Retired(agent) => say_retired(err, *agent),
     }
 }
 

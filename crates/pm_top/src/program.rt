@@ -1,28 +1,35 @@
-ghost use Rattle.std.specs.Prelude.{◌≡◌, ◌≢◌, ◌⊎◌, ◌≤◌, [], Some, None, IfSome, Ok, Err, length, map, string_bytes};
+ghost use Rattle.std.specs.Prelude.{ℕ, ◌≡◌, ◌≢◌, ◌⊎◌, ◌<◌, ◌≤◌, ◌^◌, [], true, false, Some, None, IfSome, Ok, Err, length, map, string_bytes};
 ghost use Rattle.std.specs.Io.KnownBytes.{IsAtEnd};
 ghost use Rattle.pm_io.specs.Causes.{Rose};
 ghost use Rattle.pm_plan.specs.Plans.{IsValid};
 ghost use Rattle.pm_plan.specs.declared.plan.Plan.{Plan as ThePlan};
 ghost use Rattle.pm_scenario.specs.Scenarios.{plan_of};
 ghost use Rattle.pm_scenario.specs.declared.fault.ScenarioFault.{ScenarioFault as TheFault};
-ghost use Rattle.pm_top.specs.Endings.{ending_of, error_line, status_of};
-ghost use Rattle.pm_top.specs.Headline.{EndsRun, IsAccepted, IsRefused, IsServed, IsTooLong, IsUnfit, Offers, ReadsAll, WritesNothing};
-ghost use Rattle.pm_top.specs.Printed.{PrintedIn, PrintedOf};
-ghost use Rattle.pm_top.specs.Readings.{IsReadPast};
+ghost use Rattle.pm_top.specs.Endings.{Accepts, ending_of, error_line, status_of};
+ghost use Rattle.pm_top.specs.Headline.{EndsRun, HasBudget, HasRun, IsServed, Offers, ReadsAll, WritesNothing, given};
+ghost use Rattle.pm_top.specs.Printed.{PrintedIn, PrintedOf, PrintedWhere};
+ghost use Rattle.pm_top.specs.Readings.{IsAccepted, IsLongInput, IsLongScenario, IsRefused, IsTakenAtMost, IsUnfit, longest, scenario_in};
 ghost use Rattle.pm_words.specs.Ranges.{IsInRange};
-ghost use Rattle.pm_words.specs.Words.{settings_of};
+ghost use Rattle.pm_words.specs.Words.{reads, settings_of};
 
 use crate::check::write_check;
+use crate::demo::write_demo;
 use crate::optimistic::write_optimistic;
 use crate::outcome::{Ending, offer, status_of};
-use crate::reading::{Unread, read_whole};
+use crate::reading::{LONGEST_SCENARIO, Unread, longest, read_whole, scenario_in};
+use crate::replays::write_replay;
 use crate::run::write_run;
-use pm_base::{Journal, List};
+use crate::texts::{write_cut, write_place, write_upgrade};
+use crate::work::{Worked, still};
+use pm_base::Journal;
+use pm_gen::scenario_of;
 use pm_io::{Gate, Sink, Source};
 use pm_kernel::Outcome;
 use pm_plan::Plan;
 use pm_plan::laws::limits_are_kept;
+use pm_replay::parts;
 use pm_scenario::{ScenarioFault, read};
+use pm_upgrade::read_plans_can_be_printed;
 use pm_words::{Mode, Settings, WordsFault};
 use std::alloc::Global;
 use std::thread::Threads;
@@ -34,15 +41,8 @@ pub struct Report {
     pub status: u8,
     /// Why it is that status.
     pub ending: Ending,
-    /// The events of the optimistic run, up to its last Commit; the modes `seq` and `check` have none.
+    /// The events of the optimistic run, up to its last Commit; the modes that make none have an empty one.
     pub journal: Journal,
-}
-
-/// How a mode's work ended, and the events of its run.
-#[derive(Debug, Drop)]
-struct Worked {
-    ending: Ending,
-    journal: Journal,
 }
 
 /// How a call ends whose run came to this.
@@ -57,35 +57,29 @@ fn ending_of(outcome: Outcome) -> Ending
     }
 }
 
-/// An ending without a journal.
-fn still(alloc: Global, ending: Ending) -> Worked
-    ensures ending { result.ending ≡ ending }
-    ensures journal { result.journal ≡ [] }
-{
-    Worked {
-        ending,
-        journal: List::new(alloc),
-    }
-}
-
 /// Writes what the mode writes of a plan.
 fn write_output<K: Sink>(
     alloc: Global,
     mode: Mode,
     settings: &Settings,
+    bytes: &[u8],
     plan: &Plan,
     out: &mut K,
 ) -> Worked
     requires valid { IsValid plan.now }
     requires range { IsInRange settings.now.run }
-    ensures printed { PrintedIn mode settings.now plan.now result.ending result.journal
+    requires moves { plan.now.move_after < 2 ^ 63 }
+    requires short { length bytes.now ≤ longest mode }
+    ensures printed { PrintedIn mode settings.now bytes.now plan.now result.ending result.journal
         (K.holds out.old) (K.holds out.new) }
     ensures ran { EndsRun result.ending }
     ensures plan { (f : TheFault) → result.ending ≢ Ending.Refused f }
     ensures cause { result.ending ≡ Ending.WriteFault → Rose (K.faults out.old) (K.faults out.new)
         ⊎ Rose (K.stalls out.old) (K.stalls out.new) }
-    ensures budget { result.ending ≡ Ending.BudgetSpent → mode ≢ Mode.Check }
-    ensures journal { mode ≢ Mode.Run → result.journal ≡ [] }
+    ensures budget { result.ending ≡ Ending.BudgetSpent → HasBudget mode }
+    ensures retired { (agent : ℕ) → result.ending ≡ Ending.Retired agent → mode ≡ Mode.Cut }
+    ensures illegal { (line : ℕ) → result.ending ≡ Ending.Illegal line → mode ≡ Mode.Replay }
+    ensures journal { (HasRun mode → ⊥) → result.journal ≡ [] }
 {
     match mode {
         Mode::Seq => {
@@ -104,33 +98,120 @@ fn write_output<K: Sink>(
                 journal: ran.journal,
             }
         }
+        Mode::Demo => {
+            let ran = write_demo(alloc, plan, settings, out);
+            Worked {
+                ending: ending_of(ran.outcome),
+                journal: ran.journal,
+            }
+        }
+        Mode::Upgrade => still(alloc, write_upgrade(alloc, plan, out)),
+        Mode::Place => still(alloc, write_place(alloc, plan, settings.run.budget, out)),
+        Mode::Cut => still(alloc, write_cut(alloc, plan, settings, out)),
+        Mode::Replay => write_replay(alloc, plan, parts(bytes).1, out),
     }
 }
 
 /// Writes what the mode writes of a scenario's text.
-fn run_text<K: Sink>(alloc: Global, settings: &Settings, bytes: &[u8], out: &mut K) -> Worked
-    requires few { length bytes.now ≤ 4194304 }
+fn run_text<K: Sink>(
+    alloc: Global,
+    settings: &Settings,
+    bytes: &[u8],
+    scenario: &[u8],
+    out: &mut K,
+) -> Worked
+    requires few { length scenario.now ≤ 4194304 }
+    requires short { length bytes.now ≤ longest settings.now.mode }
+    requires scenario { scenario.now ≡ scenario_in settings.now.mode bytes.now }
     requires range { IsInRange settings.now.run }
-    ensures printed { PrintedOf settings.now (Some bytes.now) result.ending result.journal
+    ensures printed { PrintedWhere true settings.now (Some bytes.now) result.ending result.journal
         (K.holds out.old) (K.holds out.new) }
-    ensures refused { (f : TheFault) → result.ending ≡ Ending.Refused f → plan_of bytes.now ≡ Err f }
-    ensures accepted { (result.ending ≡ Ending.Done) ⊎ ((result.ending ≡ Ending.BudgetSpent)
-        ⊎ (result.ending ≡ Ending.WriteFault)) → (p : ThePlan) × (plan_of bytes.now ≡ Ok p) }
+    ensures refused { (f : TheFault) → result.ending ≡ Ending.Refused f → plan_of scenario.now ≡ Err f }
+    ensures accepted { Accepts result.ending → (p : ThePlan) × (plan_of scenario.now ≡ Ok p) }
     ensures fault { result.ending ≡ Ending.WriteFault → Rose (K.faults out.old) (K.faults out.new)
         ⊎ Rose (K.stalls out.old) (K.stalls out.new) }
     ensures ran { EndsRun result.ending }
-    ensures budget { result.ending ≡ Ending.BudgetSpent → settings.now.mode ≢ Mode.Check }
-    ensures unfit { (f : TheFault) → plan_of bytes.now ≡ Err f → (result.journal ≡ []) × (out.new ≡ out.old) }
-    ensures journal { settings.now.mode ≢ Mode.Run → result.journal ≡ [] }
+    ensures budget { result.ending ≡ Ending.BudgetSpent → HasBudget settings.now.mode }
+    ensures retired { (agent : ℕ) → result.ending ≡ Ending.Retired agent → settings.now.mode ≡ Mode.Cut }
+    ensures illegal { (line : ℕ) → result.ending ≡ Ending.Illegal line → settings.now.mode ≡ Mode.Replay }
+    ensures unfit { (f : TheFault) → plan_of scenario.now ≡ Err f → (result.journal ≡ []) × (out.new ≡ out.old) }
+    ensures journal { (HasRun settings.now.mode → ⊥) → result.journal ≡ [] }
 {
-    match read(alloc, bytes) {
-        Ok(plan) => write_output(alloc, settings.mode, settings, &plan, out),
+    match read(alloc, scenario) {
+        Ok(plan) => {
+            read_plans_can_be_printed(scenario, &plan);
+            write_output(alloc, settings.mode, settings, bytes, &plan, out)
+        }
         Err(ScenarioFault::Memory) => still(alloc, Ending::Memory),
         Err(fault) => still(alloc, Ending::Refused(fault)),
     }
 }
 
 /// Reads the input and does what the mode does.
+fn run_input<S: Source, K: Sink>(
+    alloc: Global,
+    settings: &Settings,
+    input: &mut S,
+    out: &mut K,
+) -> Worked
+    requires range { IsInRange settings.now.run }
+    ensures printed { PrintedWhere true settings.now (S.held input.old) result.ending result.journal
+        (K.holds out.old) (K.holds out.new) }
+    ensures nothing { WritesNothing result.ending → (result.journal ≡ []) × (out.new ≡ out.old) }
+    ensures refused { (f : TheFault) → result.ending ≡ Ending.Refused f →
+        IfSome (S.held input.old) (IsRefused settings.now.mode f) }
+    ensures too_long { result.ending ≡ Ending.TooLong → IfSome (S.held input.old) (IsLongScenario settings.now.mode)
+        × IsTakenAtMost (longest settings.now.mode) (S.held input.old) (S.held input.new) }
+    ensures long_input { result.ending ≡ Ending.InputTooLong → IfSome (S.held input.old) (IsLongInput settings.now.mode)
+        × IsTakenAtMost (longest settings.now.mode) (S.held input.old) (S.held input.new) }
+    ensures accepted { Accepts result.ending → IfSome (S.held input.old) (IsAccepted settings.now.mode) }
+    ensures read { ReadsAll result.ending → IsAtEnd (S.held input.new) }
+    ensures read_fault { result.ending ≡ Ending.ReadFault → Rose (S.faults input.old) (S.faults input.new) }
+    ensures write_fault { result.ending ≡ Ending.WriteFault → Rose (K.faults out.old) (K.faults out.new)
+        ⊎ Rose (K.stalls out.old) (K.stalls out.new) }
+    ensures words { result.ending ≢ Ending.Words }
+    ensures budget { result.ending ≡ Ending.BudgetSpent → HasBudget settings.now.mode }
+    ensures retired { (agent : ℕ) → result.ending ≡ Ending.Retired agent → settings.now.mode ≡ Mode.Cut }
+    ensures illegal { (line : ℕ) → result.ending ≡ Ending.Illegal line → settings.now.mode ≡ Mode.Replay }
+    ensures unfit { IfSome (S.held input.old) (λ b. IsUnfit settings.now.mode b → (result.journal ≡ []) × (out.new ≡ out.old)) }
+    ensures journal { (HasRun settings.now.mode → ⊥) → result.journal ≡ [] }
+{
+    let taken = match read_whole(alloc, input, longest(settings.mode)) {
+        Ok(taken) => taken,
+        Err(Unread::Failed) => return still(alloc, Ending::ReadFault),
+        Err(Unread::Memory) => return still(alloc, Ending::Memory),
+    };
+    let bytes = taken.bytes.as_slice();
+    let scenario = scenario_in(settings.mode, bytes);
+    if scenario.len() > LONGEST_SCENARIO {
+        return still(alloc, Ending::TooLong);
+    }
+    if taken.is_past {
+        return still(alloc, Ending::InputTooLong);
+    }
+    run_text(alloc, settings, bytes, scenario, out)
+}
+
+/// Does what the mode does with the generated scenario.
+fn run_generated<K: Sink>(alloc: Global, settings: &Settings, out: &mut K) -> Worked
+    requires range { IsInRange settings.now.run }
+    ensures printed { PrintedWhere false settings.now None result.ending result.journal
+        (K.holds out.old) (K.holds out.new) }
+    ensures ran { Accepts result.ending ⊎ (result.ending ≡ Ending.Memory) }
+    ensures write_fault { result.ending ≡ Ending.WriteFault → Rose (K.faults out.old) (K.faults out.new)
+        ⊎ Rose (K.stalls out.old) (K.stalls out.new) }
+    ensures budget { result.ending ≡ Ending.BudgetSpent → HasBudget settings.now.mode }
+    ensures retired { (agent : ℕ) → result.ending ≡ Ending.Retired agent → settings.now.mode ≡ Mode.Cut }
+    ensures illegal { (line : ℕ) → result.ending ≡ Ending.Illegal line → settings.now.mode ≡ Mode.Replay }
+    ensures journal { (HasRun settings.now.mode → ⊥) → result.journal ≡ [] }
+{
+    match scenario_of(alloc, settings.seed) {
+        Ok(plan) => write_output(alloc, settings.mode, settings, &[], &plan, out),
+        Err(_) => still(alloc, Ending::Memory),
+    }
+}
+
+/// Does what the mode does, with the input where the mode reads it.
 fn run_mode<S: Source, K: Sink>(
     alloc: Global,
     settings: &Settings,
@@ -141,27 +222,34 @@ fn run_mode<S: Source, K: Sink>(
     ensures printed { PrintedOf settings.now (S.held input.old) result.ending result.journal
         (K.holds out.old) (K.holds out.new) }
     ensures nothing { WritesNothing result.ending → (result.journal ≡ []) × (out.new ≡ out.old) }
-    ensures refused { (f : TheFault) → result.ending ≡ Ending.Refused f → IfSome (S.held input.old) (IsRefused f) }
-    ensures too_long { result.ending ≡ Ending.TooLong → IfSome (S.held input.old) IsTooLong
-        × IsReadPast (S.held input.old) (S.held input.new) }
-    ensures accepted { (result.ending ≡ Ending.Done) ⊎ ((result.ending ≡ Ending.BudgetSpent)
-        ⊎ (result.ending ≡ Ending.WriteFault)) → IfSome (S.held input.old) IsAccepted }
-    ensures read { ReadsAll result.ending → IsAtEnd (S.held input.new) }
+    ensures refused { (f : TheFault) → result.ending ≡ Ending.Refused f →
+        IfSome (given settings.now.mode (S.held input.old)) (IsRefused settings.now.mode f) }
+    ensures too_long { result.ending ≡ Ending.TooLong →
+        IfSome (given settings.now.mode (S.held input.old)) (IsLongScenario settings.now.mode)
+        × IsTakenAtMost (longest settings.now.mode) (S.held input.old) (S.held input.new) }
+    ensures long_input { result.ending ≡ Ending.InputTooLong →
+        IfSome (given settings.now.mode (S.held input.old)) (IsLongInput settings.now.mode)
+        × IsTakenAtMost (longest settings.now.mode) (S.held input.old) (S.held input.new) }
+    ensures accepted { Accepts result.ending →
+        IfSome (given settings.now.mode (S.held input.old)) (IsAccepted settings.now.mode) }
+    ensures read { reads settings.now.mode ≡ true → ReadsAll result.ending → IsAtEnd (S.held input.new) }
+    ensures unread { reads settings.now.mode ≡ false → (input.new ≡ input.old)
+        × (Accepts result.ending ⊎ (result.ending ≡ Ending.Memory)) }
     ensures read_fault { result.ending ≡ Ending.ReadFault → Rose (S.faults input.old) (S.faults input.new) }
     ensures write_fault { result.ending ≡ Ending.WriteFault → Rose (K.faults out.old) (K.faults out.new)
         ⊎ Rose (K.stalls out.old) (K.stalls out.new) }
     ensures words { result.ending ≢ Ending.Words }
-    ensures budget { result.ending ≡ Ending.BudgetSpent → settings.now.mode ≢ Mode.Check }
-    ensures unfit { IfSome (S.held input.old) (λ b. IsUnfit b → (result.journal ≡ []) × (out.new ≡ out.old)) }
-    ensures journal { settings.now.mode ≢ Mode.Run → result.journal ≡ [] }
+    ensures budget { result.ending ≡ Ending.BudgetSpent → HasBudget settings.now.mode }
+    ensures retired { (agent : ℕ) → result.ending ≡ Ending.Retired agent → settings.now.mode ≡ Mode.Cut }
+    ensures illegal { (line : ℕ) → result.ending ≡ Ending.Illegal line → settings.now.mode ≡ Mode.Replay }
+    ensures unfit { IfSome (given settings.now.mode (S.held input.old))
+        (λ b. IsUnfit settings.now.mode b → (result.journal ≡ []) × (out.new ≡ out.old)) }
+    ensures journal { (HasRun settings.now.mode → ⊥) → result.journal ≡ [] }
 {
-    let bytes = match read_whole(alloc, input) {
-        Ok(bytes) => bytes,
-        Err(Unread::Failed) => return still(alloc, Ending::ReadFault),
-        Err(Unread::TooLong) => return still(alloc, Ending::TooLong),
-        Err(Unread::Memory) => return still(alloc, Ending::Memory),
-    };
-    run_text(alloc, settings, bytes.as_slice(), out)
+    if settings.mode.reads() {
+        return run_input(alloc, settings, input, out);
+    }
+    run_generated(alloc, settings, out)
 }
 
 /// Offers the line of an ending and reports it.
@@ -204,7 +292,8 @@ fn serve<S: Source, K: Sink, E: Sink>(
       err_after = record { holds = E.holds err.new; faults = E.faults err.new; stalls = E.stalls err.new };
     }) }
     ensures nothing { WritesNothing result.ending → out.new ≡ out.old }
-    ensures unfit { IfSome (S.held input.old) (λ b. IsUnfit b → out.new ≡ out.old) }
+    ensures unfit { IfSome (settings_of (map string_bytes words.now.items))
+        (λ s. IfSome (given s.mode (S.held input.old)) (λ b. IsUnfit s.mode b → out.new ≡ out.old)) }
     ensures untouched { settings_of (map string_bytes words.now.items) ≡ None →
         (input.new ≡ input.old) × (out.new ≡ out.old) }
     ensures silent { result.ending ≡ Ending.Done → err.new ≡ err.old }
@@ -220,8 +309,10 @@ fn serve<S: Source, K: Sink, E: Sink>(
 
 /// All that the program does. `words` are those after the program's name, as `pm_words` reads them: the mode `seq`, for
 /// the sequential run of the scenario that `input` holds; `run`, for the optimistic run of it, which prints the same
-/// trace; or `check`, for how many parts it has. A run's trace is written to `out`, each line by itself, for as many
-/// steps, in mode `run` deliveries, as the option `budget` says; at each ending but `Done` the line of that ending is
+/// trace; `check`, for how many parts it has; `upgrade`, for the scenario in the present form; `place`, for where its
+/// variables are best kept; `cut`, for the scenario whose run is the rest of its run from a time on; or `demo`, for the
+/// optimistic run of a generated scenario, in one line, for which the input isn't read. A run's trace is written to `out`, each line by itself, for as many
+/// steps, in modes `run` and `demo` deliveries, as the option `budget` says; at each ending but `Done` the line of that ending is
 /// offered to `err`. Nothing asks `gate` and no thread is started: any number of workers is served on this thread.
 pub fn top<R: Threads + Sync, S: Source, K: Sink, E: Sink, G: Gate + Sync>(
     rt: &R,
@@ -245,7 +336,8 @@ pub fn top<R: Threads + Sync, S: Source, K: Sink, E: Sink, G: Gate + Sync>(
       err_after = record { holds = E.holds err.new; faults = E.faults err.new; stalls = E.stalls err.new };
     }) }
     ensures nothing { WritesNothing result.ending → out.new ≡ out.old }
-    ensures unfit { IfSome (S.held input.old) (λ b. IsUnfit b → out.new ≡ out.old) }
+    ensures unfit { IfSome (settings_of (map string_bytes words.now.items))
+        (λ s. IfSome (given s.mode (S.held input.old)) (λ b. IsUnfit s.mode b → out.new ≡ out.old)) }
     ensures untouched { settings_of (map string_bytes words.now.items) ≡ None →
         (input.new ≡ input.old) × (out.new ≡ out.old) }
     ensures silent { result.ending ≡ Ending.Done → err.new ≡ err.old }
@@ -276,7 +368,8 @@ pub fn plain<S: Source, K: Sink, E: Sink>(
       err_after = record { holds = E.holds err.new; faults = E.faults err.new; stalls = E.stalls err.new };
     }) }
     ensures nothing { WritesNothing result.ending → out.new ≡ out.old }
-    ensures unfit { IfSome (S.held input.old) (λ b. IsUnfit b → out.new ≡ out.old) }
+    ensures unfit { IfSome (settings_of (map string_bytes words.now.items))
+        (λ s. IfSome (given s.mode (S.held input.old)) (λ b. IsUnfit s.mode b → out.new ≡ out.old)) }
     ensures untouched { settings_of (map string_bytes words.now.items) ≡ None →
         (input.new ≡ input.old) × (out.new ≡ out.old) }
     ensures silent { result.ending ≡ Ending.Done → err.new ≡ err.old }

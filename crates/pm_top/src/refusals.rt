@@ -200,3 +200,23 @@ pub fn say_refusal<E: Sink>(err: &mut E, fault: &ScenarioFault) -> Result<(), Fa
     say(err, "pdesmas: scenario: ")?;
     say_reason(err, fault)
 }
+
+/// That this agent makes no further step, in one line.
+pub fn say_retired<E: Sink>(err: &mut E, agent: u32) -> Result<(), Failed>
+    ensures { Speaks result (record { holds = E.holds err.old; faults = E.faults err.old; stalls = E.stalls err.old })
+        (record { holds = E.holds err.new; faults = E.faults err.new; stalls = E.stalls err.new })
+        ((codes "pdesmas: cut: agent " ++ decimal agent) ++ codes " is retired\n") }
+{
+    say_before(err, "pdesmas: cut: agent ", agent as u64)?;
+    say(err, " is retired\n")
+}
+
+/// That this line of a journal may not stand there, in one line.
+pub fn say_illegal<E: Sink>(err: &mut E, line: u64) -> Result<(), Failed>
+    ensures { Speaks result (record { holds = E.holds err.old; faults = E.faults err.old; stalls = E.stalls err.old })
+        (record { holds = E.holds err.new; faults = E.faults err.new; stalls = E.stalls err.new })
+        ((codes "pdesmas: journal: line " ++ decimal line) ++ codes "\n") }
+{
+    say_before(err, "pdesmas: journal: line ", line)?;
+    say(err, "\n")
+}

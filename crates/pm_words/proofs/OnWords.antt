@@ -17,6 +17,26 @@ pub run : settings_of (codes "run" ∷ codes "--epoch=5" ∷ codes "--journal" �
 unfolding settings_of parts_from mode_named
 run = refl
 
+pub demo : settings_of (codes "demo" ∷ codes "--seed" ∷ codes "7" ∷ []) ≡ Some (record usual { mode = mode.Demo; seed = 7 })
+unfolding settings_of parts_from mode_named
+demo = refl
+
+pub upgrade : settings_of (codes "upgrade" ∷ []) ≡ Some (record usual { mode = mode.Upgrade })
+unfolding settings_of parts_from mode_named
+upgrade = refl
+
+pub place : settings_of (codes "place" ∷ []) ≡ Some (record usual { mode = mode.Place })
+unfolding settings_of parts_from mode_named
+place = refl
+
+pub cut : settings_of (codes "cut" ∷ codes "--from=2" ∷ []) ≡ Some (record usual { mode = mode.Cut; from = 2 })
+unfolding settings_of parts_from mode_named
+cut = refl
+
+pub replay : settings_of (codes "replay" ∷ []) ≡ Some (record usual { mode = mode.Replay })
+unfolding settings_of parts_from mode_named
+replay = refl
+
 pub option_before : settings_of (codes "--workers=2" ∷ codes "seq" ∷ []) ≡
     Some (record usual { run = record usual_run { workers = 2 } })
 unfolding settings_of parts_from mode_named

@@ -68,7 +68,17 @@ unfoldable pub mode_named : Text → Option Mode
 mode_named word = cond (bytes_eq word (codes "seq")) (Some mode.Seq)
     (cond (bytes_eq word (codes "check")) (Some mode.Check)
     (cond (bytes_eq word (codes "run")) (Some mode.Run)
-    None))
+    (cond (bytes_eq word (codes "demo")) (Some mode.Demo)
+    (cond (bytes_eq word (codes "upgrade")) (Some mode.Upgrade)
+    (cond (bytes_eq word (codes "place")) (Some mode.Place)
+    (cond (bytes_eq word (codes "cut")) (Some mode.Cut)
+    (cond (bytes_eq word (codes "replay")) (Some mode.Replay)
+    None)))))))
+
+-- the mode reads the input; only the generated scenario comes of a number alone
+abbrev pub reads : Mode → Bool
+reads mode.Demo = false
+reads _ = true
 
 -- ---- the words, from left to right
 

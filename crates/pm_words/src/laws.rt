@@ -12,6 +12,12 @@ pub fn worked_words()
       run = record usual_run { epoch = 5 };
       journal = true;
     }) }
+    ensures demo { settings_of (codes "demo" ∷ codes "--seed" ∷ codes "7" ∷ []) ≡
+        Some (record usual { mode = mode.Demo; seed = 7 }) }
+    ensures upgrade { settings_of (codes "upgrade" ∷ []) ≡ Some (record usual { mode = mode.Upgrade }) }
+    ensures place { settings_of (codes "place" ∷ []) ≡ Some (record usual { mode = mode.Place }) }
+    ensures cut { settings_of (codes "cut" ∷ codes "--from=2" ∷ []) ≡ Some (record usual { mode = mode.Cut; from = 2 }) }
+    ensures replay { settings_of (codes "replay" ∷ []) ≡ Some (record usual { mode = mode.Replay }) }
     ensures option_before { settings_of (codes "--workers=2" ∷ codes "seq" ∷ []) ≡
         Some (record usual { run = record usual_run { workers = 2 } }) }
     ensures option_behind { settings_of (codes "seq" ∷ codes "--budget" ∷ codes "2" ∷ []) ≡

@@ -1,4 +1,4 @@
-ghost use Rattle.std.specs.Prelude.{◌≡◌, IfSome, codes, option_and_then, option_map};
+ghost use Rattle.std.specs.Prelude.{◌≡◌, ◌≤◌, IfSome, codes, option_and_then, option_map};
 ghost use Rattle.clap.specs.Words.{first_of, found_of, rows_of};
 ghost use Rattle.pm_words.specs.Ranges.{IsFrom, IsInRange};
 ghost use Rattle.pm_words.specs.Rows.{number_in, optional_in, row_settings};
@@ -64,6 +64,7 @@ fn has_journal(matches: &ArgMatches<'_>) -> bool
 pub fn settings_in(matches: &ArgMatches<'_>) -> Option<Settings>
     ensures settings { result ≡ row_settings (rows_of (found_of matches.now)) }
     ensures range { IfSome result (λ s. IsInRange s.run) }
+    ensures from { IfSome result (λ s. s.from ≤ 1000000000000) }
 {
     let mode = mode_of(matches)?;
     let workers = number(matches, "workers", 0, 64, 4)?;

@@ -1,4 +1,4 @@
-ghost use Rattle.std.specs.Prelude.{◌≡◌, ◌≢◌, ◌↔◌, [], IfErr, IfOk, IsTrue, None, Some, map, string_bytes};
+ghost use Rattle.std.specs.Prelude.{◌≡◌, ◌≢◌, ◌≤◌, ◌↔◌, [], IfErr, IfOk, IsTrue, None, Some, map, string_bytes};
 ghost use Rattle.clap.specs.Words.{found_of, kind_of, rows_of};
 ghost use Rattle.pm_words.specs.Line.{faults, rows};
 ghost use Rattle.pm_words.specs.Ranges.{IsInRange};
@@ -45,6 +45,7 @@ pub fn read(alloc: Global, words: &Vec<String>) -> Result<Settings, WordsFault>
     ensures ok { IfOk result (λ s. settings_of (map string_bytes words.now.items) ≡ Some s) }
     ensures refused { IfErr result (λ e. e ≡ fault.Words → settings_of (map string_bytes words.now.items) ≡ None) }
     ensures range { IfOk result (λ s. IsInRange s.run) }
+    ensures from { IfOk result (λ s. s.from ≤ 1000000000000) }
 {
     let matches = match parse(alloc, words.as_slice()) {
         Ok(matches) => matches,

@@ -1,5 +1,5 @@
 ghost use Rattle.std.specs.Prelude.{◌≡◌};
-ghost use Rattle.pm_words.specs.Words.{mode_named};
+ghost use Rattle.pm_words.specs.Words.{mode_named, reads};
 
 use pm_base::RunSettings;
 use thiserror::Error;
@@ -13,13 +13,33 @@ pub enum Mode {
     Check,
     /// The optimistic run of a scenario.
     Run,
+    /// The optimistic run of a generated scenario, told in one line.
+    Demo,
+    /// A scenario in the present form of the text.
+    Upgrade,
+    /// Where the variables of a scenario are best kept.
+    Place,
+    /// A scenario that goes on from a time of another.
+    Cut,
+    /// A scenario with a journal behind it: whether the journal is a legal run, and what it commits.
+    Replay,
+}
+
+impl Mode {
+    /// Whether the mode reads the input.
+    pub fn reads(self) -> bool
+        ensures { result ≡ reads self }
+    {
+        self != Mode::Demo
+    }
 }
 
 /// What the words ask for. An option that the mode doesn't use has no effect.
 #[derive(Clone, Copy, Debug, PartialEq, Eq)]
 pub struct Settings {
     pub mode: Mode,
-    /// How a run goes; `budget` is counted in steps where the mode is `Seq`, in deliveries where it is `Run`.
+    /// How a run goes; `budget` is counted in deliveries where the mode is `Run` or `Demo`,
+    /// else in steps of the sequential run.
     pub run: RunSettings,
     /// The number of the generated scenario.
     pub seed: u64,
@@ -49,6 +69,16 @@ pub fn mode_named(word: &str) -> Option<Mode>
         Some(Mode::Check)
     } else if word == "run" {
         Some(Mode::Run)
+    } else if word == "demo" {
+        Some(Mode::Demo)
+    } else if word == "upgrade" {
+        Some(Mode::Upgrade)
+    } else if word == "place" {
+        Some(Mode::Place)
+    } else if word == "cut" {
+        Some(Mode::Cut)
+    } else if word == "replay" {
+        Some(Mode::Replay)
     } else {
         None
     }

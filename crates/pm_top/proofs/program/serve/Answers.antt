@@ -1,8 +1,9 @@
-use Rattle.std.proofs.Common.{◌≡◌, ◌∙◌, refl, sym, map, string_bytes, Option, Some, None}
-use Rattle.pm_top.proofs.Complete.{completes, limits, refuses, within, Told}
-use Rattle.pm_top.proofs.Stopped.{firsts, kept, memory-served, seconds, words-served}
-use Rattle.pm_top.specs.Headline.{IsUnfit}
-use Rattle.pm_words.specs.Words.{settings_of}
+use Rattle.std.proofs.Common.{◌≡◌, ◌∙◌, ap, refl, sym, map, string_bytes, Option, Some, None, IfSome}
+use Rattle.pm_top.proofs.Complete.{completes, input-limits, limits, refuses, within-given, Kinds, Told}
+use Rattle.pm_top.proofs.Stopped.{each, firsts, kept, memory-served, seconds, words-served}
+use Rattle.pm_top.specs.Headline.{given}
+use Rattle.pm_top.specs.Readings.{IsUnfit}
+use Rattle.pm_words.specs.Words.{reads, settings_of}
 use Rattle.pm_words.specs.declared.settings.Settings.{Settings}
 use Rattle.pm_top.proofs.program.serve.Goals as goal
 
@@ -31,31 +32,46 @@ returns-clause-served g c =
     let s = c.in-Ok.settings in
     let held = g.S.Source.held c.args.input.now in
     let named : settings_of (map string_bytes c.args.words.now.items) ≡ Some s = c.in-Ok.ensures.ok in
-    let told : Told e held = record { words = run.words; refused = run.refused; too_long = λ h. (run.too_long h).0; accepted = run.accepted } in
+    let text = given s.mode held in
+    let told : Told s.mode e text = record {
+      words = run.words;
+      refused = run.refused;
+      too_long = λ h. (run.too_long h).0;
+      long_input = λ h. (run.long_input h).0;
+      accepted = run.accepted;
+    } in
+    let kinds : Kinds s.mode e = record { budget = run.budget; retired = run.retired; illegal = run.illegal } in
     rw (c.report_of-2.ensures.ending, c.report_of-2.ensures.journal, named) (record {
       printed = run.printed;
       journal = record {
         runs = run.journal;
         nothing = λ h. (run.nothing h).0;
-        unfit = firsts IsUnfit _ _ held run.unfit;
+        unfit = firsts (IsUnfit s.mode) _ _ text run.unfit;
       };
       caused = record {
         words = λ h. absurd (run.words h);
         no_words = λ h. absurd (some-none s h);
-        refused = run.refused;
-        too_long = run.too_long;
-        budget = run.budget;
-        accepted = run.accepted;
-        read = run.read;
+        by_mode = record {
+          refused = run.refused;
+          too_long = run.too_long;
+          long_input = run.long_input;
+          budget = run.budget;
+          retired = run.retired;
+          illegal = run.illegal;
+          accepted = run.accepted;
+          read = run.read;
+          unread = λ h. (ap (λ i. record { held = g.S.Source.held i; faults = g.S.Source.faults i }) (run.unread h).0, (run.unread h).1);
+        };
         read_fault = run.read_fault;
         write_fault = run.write_fault;
       };
       told = c.report_of-2.ensures.told;
       complete = record {
-        refuses = refuses e held told;
-        limits = limits e held told;
-        completes = λ good well. completes e held told (λ h. good (run.read_fault h)) (λ h. well (run.write_fault h));
-        within = λ good well. within e s held _ _ _ told (λ h. good (run.read_fault h)) (λ h. well (run.write_fault h)) run.budget run.printed;
+        refuses = refuses s.mode e text told;
+        limits = limits s.mode e text told;
+        input_limits = input-limits s.mode e text told;
+        completes = λ good well. completes s.mode e text told (λ h. good (run.read_fault h)) (λ h. well (run.write_fault h));
+        within = λ good well. within-given (reads s.mode) e s held _ _ _ told (λ h. good (run.read_fault h)) (λ h. well (run.write_fault h)) kinds run.printed;
       };
     })
 
@@ -63,10 +79,15 @@ pub returns-clause-nothing : goal.returns-clause-nothing
 returns-clause-nothing g c = λ h. (c.run_mode-worked.ensures.nothing (rw c.report_of-2.ensures.ending at h)).1
 
 pub returns-clause-unfit : goal.returns-clause-unfit
-returns-clause-unfit g c = seconds IsUnfit _ _ (g.S.Source.held c.args.input.now) c.run_mode-worked.ensures.unfit
+returns-clause-unfit g c =
+    rw c.in-Ok.ensures.ok (seconds (IsUnfit c.in-Ok.settings.mode) _ _ (given c.in-Ok.settings.mode (g.S.Source.held c.args.input.now)) c.run_mode-worked.ensures.unfit)
 
 pub returns-in-Err-Words-clause-unfit : goal.returns-in-Err-Words-clause-unfit
-returns-in-Err-Words-clause-unfit g c = kept (g.S.Source.held c.args.input.now) (λ b unfit. refl)
+returns-in-Err-Words-clause-unfit g c =
+    each (λ s. IfSome (given s.mode (g.S.Source.held c.args.input.now)) (λ b. IsUnfit s.mode b → c.args.out.now ≡ c.args.out.now))
+    (settings_of (map string_bytes c.args.words.now.items)) (λ s. kept (given s.mode (g.S.Source.held c.args.input.now)) (λ b unfit. refl))
 
 pub returns-in-Err-Memory-clause-unfit : goal.returns-in-Err-Memory-clause-unfit
-returns-in-Err-Memory-clause-unfit g c = kept (g.S.Source.held c.args.input.now) (λ b unfit. refl)
+returns-in-Err-Memory-clause-unfit g c =
+    each (λ s. IfSome (given s.mode (g.S.Source.held c.args.input.now)) (λ b. IsUnfit s.mode b → c.args.out.now ≡ c.args.out.now))
+    (settings_of (map string_bytes c.args.words.now.items)) (λ s. kept (given s.mode (g.S.Source.held c.args.input.now)) (λ b unfit. refl))

@@ -1,3 +1,4 @@
+use Rattle.std.proofs.Common.{◌∙◌, sym}
 use Rattle.pm_top.proofs.Outcomes.{not-done, of-done, of-fault, of-spent}
 use Rattle.pm_top.proofs.program.write_output.Goals as goal
 
@@ -24,3 +25,21 @@ returns-in-Check-clause-printed g c =
       part = w.part;
       unfinished = λ h. w.unfinished (not-done o h);
     })
+
+pub returns-in-Demo-clause-printed : goal.returns-in-Demo-clause-printed
+returns-in-Demo-clause-printed g c = rw (c.in-Demo.is, c.ending_of-in-Demo.ensures) c.write_demo-ran.ensures.printed
+
+pub returns-in-Upgrade-clause-retired : goal.returns-in-Upgrade-clause-retired
+returns-in-Upgrade-clause-retired g c = λ agent h. absurd (c.write_upgrade.ensures.retired agent (sym c.still-in-Upgrade.ensures.ending ∙ h))
+
+pub returns-in-Upgrade-clause-illegal : goal.returns-in-Upgrade-clause-illegal
+returns-in-Upgrade-clause-illegal g c = λ line h. absurd (c.write_upgrade.ensures.illegal line (sym c.still-in-Upgrade.ensures.ending ∙ h))
+
+pub returns-in-Place-clause-retired : goal.returns-in-Place-clause-retired
+returns-in-Place-clause-retired g c = λ agent h. absurd (c.write_place.ensures.retired agent (sym c.still-in-Place.ensures.ending ∙ h))
+
+pub returns-in-Place-clause-illegal : goal.returns-in-Place-clause-illegal
+returns-in-Place-clause-illegal g c = λ line h. absurd (c.write_place.ensures.illegal line (sym c.still-in-Place.ensures.ending ∙ h))
+
+pub returns-in-Cut-clause-illegal : goal.returns-in-Cut-clause-illegal
+returns-in-Cut-clause-illegal g c = λ line h. absurd (c.write_cut.ensures.illegal line (sym c.still-in-Cut.ensures.ending ∙ h))

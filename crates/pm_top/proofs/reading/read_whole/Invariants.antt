@@ -7,8 +7,8 @@ invariant-pieces g l = record {
   taken : Consumes (g.S.Source.held l.fn.input) (g.S.Source.held l.input) l.bytes.items;
   faults : g.S.Source.faults l.fn.input ≤ g.S.Source.faults l.input;
   buffer : vec_len l.buffer ≡ 65536;
-  few : vec_len l.bytes ≤ 4194304 + 65536;
+  few : vec_len l.bytes ≤ l.limit + 65536;
 }
 
 abbrev pub decreases-pieces : goal.decreases-pieces
-decreases-pieces g l = 4194305 - vec_len l.bytes
+decreases-pieces g l = l.limit + 1 - vec_len l.bytes
