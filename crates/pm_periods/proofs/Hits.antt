@@ -6,6 +6,7 @@ use Rattle.std.proofs.lemmas.Bool.{and_from, and_parts, or_parts}
 use Rattle.std.proofs.lemmas.Bool.Decides.{Decides-int_eq}
 use Rattle.std.proofs.lemmas.List.{map-append, take_more}
 use Rattle.std.proofs.lemmas.List.Elements.{filter-append}
+use Rattle.pm_base.specs.Changes.{value_eq}
 use Rattle.pm_base.specs.declared.rows.ReadRow.{ReadRow}
 use Rattle.pm_base.specs.declared.stamp.Stamp.{Stamp}
 use Rattle.pm_base.specs.declared.value.Value.{Value}
@@ -16,6 +17,13 @@ use Rattle.pm_periods.specs.Rows.{AreDistinct, IsInOrder, has_num, key_lt, read_
 pub hit_eq-self : (h : Option Value) → hit_eq h h ≡ true
 hit_eq-self None = refl
 hit_eq-self (Some v) = and_from (int_eq v.x v.x) (int_eq v.y v.y) ((Decides-int_eq v.x v.x).1 refl) ((Decides-int_eq v.y v.y).1 refl)
+
+pub value_eq-same : (v w : Value) → value_eq v w ≡ true → v ≡ w
+value_eq-same v w e = (
+    let p = and_parts (int_eq v.x w.x) (int_eq v.y w.y) e in
+    let x : v.x ≡ w.x = (Decides-int_eq v.x w.x).0 p.0 in
+    let y : v.y ≡ w.y = (Decides-int_eq v.y w.y).0 p.1 in
+    λ i. record { x = x i; y = y i })
 
 pub hit_eq-same : (h k : Option Value) → hit_eq h k ≡ true → h ≡ k
 hit_eq-same None None e = refl

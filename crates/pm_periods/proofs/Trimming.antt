@@ -1,5 +1,5 @@
 -- Trimming keeps what is seen at every stamp not below the line.
-use Rattle.std.proofs.Common.{◌≡◌, Bool, true, false, cond, not, ◌||◌, ◌&&◌, List, [], ◌∷◌, map, filter, refl, arith, ap, ap₂, sym, ◌∙◌}
+use Rattle.std.proofs.Common.{◌≡◌, Bool, true, false, cond, not, ◌||◌, ◌&&◌, List, [], ◌∷◌, filter, refl, arith, ap, ap₂, sym, ◌∙◌}
 use Rattle.std.specs.List.{AllByRecursion}
 use Rattle.std.proofs.lemmas.Bool.Decides.{nat_tests}
 use Rattle.pm_base.specs.Changes.{applied}
@@ -7,22 +7,18 @@ use Rattle.pm_base.specs.Stamps.{is_below, stamp_lt}
 use Rattle.pm_base.specs.declared.rows.CutRow.{CutRow}
 use Rattle.pm_base.specs.declared.rows.Parts.{Parts}
 use Rattle.pm_base.specs.declared.rows.PutRow.{PutRow}
-use Rattle.pm_base.specs.declared.rows.ReadRow.{ReadRow}
 use Rattle.pm_base.specs.declared.stamp.Line.{Line}
 use Rattle.pm_base.specs.declared.stamp.Line.TheVariants as line
 use Rattle.pm_base.specs.declared.stamp.Num.{Num}
 use Rattle.pm_base.specs.declared.stamp.Stamp.{Stamp}
 use Rattle.pm_base.specs.declared.value.Value.{Value}
-use Rattle.pm_periods.specs.Inner.{IsSound, parts_of}
-use Rattle.pm_periods.specs.Records.{IsSettled, cut_stays, hit_in, is_live, is_seen, put_stays, read_stays, record_hit, record_value, trimmed, value_after, value_below}
+use Rattle.pm_periods.specs.Records.{IsSettled, cut_stays, hit_in, in_value_order, is_live, is_seen, put_stays, read_stays, record_hit, record_value, trimmed, value_after}
 use Rattle.pm_base.specs.Stamps.{num_eq}
-use Rattle.pm_periods.specs.Rows.{IsInOrder, cut_key, has_num, key_lt, put_key, read_key}
-use Rattle.pm_periods.specs.Walks.{cut_is_kept, held_key, held_row, held_stays, marked}
-use Rattle.pm_periods.specs.declared.held.Held.{Held}
-use Rattle.pm_periods.specs.declared.record.VarRecord.TheInside.{Inside}
+use Rattle.pm_periods.specs.Rows.{IsInOrder, cut_key, has_num, key_lt, put_key, read_key, value_key}
 use Rattle.pm_periods.proofs.Keys.{num_eq-same, num_eq-self, up_to-stamp}
-use Rattle.pm_periods.proofs.Ordered.{filter_distinct, filter_in_order}
-use Rattle.pm_periods.proofs.Receipts.{and_false, has_held, parts_by}
+use Rattle.pm_periods.proofs.Ordered.{add_rows-in_order, filter_distinct, filter_in_order}
+use Rattle.pm_periods.proofs.Sorting.{each_rows, filter_add_rows}
+use Rattle.pm_periods.proofs.Receipts.{and_false}
 use Rattle.pm_periods.proofs.Walks.{both_true, not_below-later}
 
 below-before : (p s : Stamp) (l : Line) → is_below p l ≡ true → is_below s l ≡ false → stamp_lt p s ≡ true
@@ -91,7 +87,7 @@ all_stay l s cuts cuts' (p ∷ ps) a b =
       ap (λ z. cond z (p ∷ filter (is_seen cuts l) ps) (filter (is_seen cuts l) ps)) none ∙ again.1,
     )
 
-trim_value : (l : Line) (s : Stamp) (cuts cuts' : List CutRow) (ps : List PutRow) (v : Value) → is_below s l ≡ false → IsInOrder put_key ps → AllByRecursion (λ p. put_stays l p ≡ true → is_live cuts' p ≡ is_live cuts p) ps
+trim_value : (l : Line) (s : Stamp) (cuts cuts' : List CutRow) (ps : List PutRow) (v : Value) → is_below s l ≡ false → IsInOrder value_key ps → AllByRecursion (λ p. put_stays l p ≡ true → is_live cuts' p ≡ is_live cuts p) ps
     → value_after (filter (is_seen cuts' (line.At s)) (filter (put_stays l) ps)) (value_after (filter (is_seen cuts l) ps) v) ≡ value_after (filter (is_seen cuts (line.At s)) ps) v
 trim_value l s cuts cuts' [] v e o a = refl
 trim_value l s cuts cuts' (p ∷ ps) v e o a = by (is_below p.stamp l) refl (trim_value l s cuts cuts' ps (applied p.change v) e o.1 a.1) (trim_value l s cuts cuts' ps v e o.1 a.1)
@@ -99,9 +95,9 @@ trim_value l s cuts cuts' (p ∷ ps) v e o a = by (is_below p.stamp l) refl (tri
     Rest : Value → Type 0
     Rest x = value_after (filter (is_seen cuts' (line.At s)) (filter (put_stays l) ps)) (value_after (filter (is_seen cuts l) ps) x) ≡ value_after (filter (is_seen cuts (line.At s)) ps) x
 
-    later : (qs : List PutRow) → is_below p.stamp l ≡ false → AllByRecursion (λ q. key_lt (put_key q) (put_key p) ≡ false) qs → AllByRecursion (λ q. is_below q.stamp l ≡ false) qs
+    later : (qs : List PutRow) → is_below p.stamp l ≡ false → AllByRecursion (λ q. key_lt (value_key q) (value_key p) ≡ false) qs → AllByRecursion (λ q. is_below q.stamp l ≡ false) qs
     later [] f b = tt
-    later (q ∷ qs) f b = (not_below-later p.stamp q.stamp l (up_to-stamp (put_key p) (put_key q) b.0) f, later qs f b.1)
+    later (q ∷ qs) f b = (not_below-later p.stamp q.stamp l (up_to-stamp (value_key p) (value_key q) b.0) f, later qs f b.1)
 
     by : (b : Bool) → is_below p.stamp l ≡ b → Rest (applied p.change v) → Rest v
         → value_after (filter (is_seen cuts' (line.At s)) (filter (put_stays l) (p ∷ ps))) (value_after (filter (is_seen cuts l) (p ∷ ps)) v) ≡ value_after (filter (is_seen cuts (line.At s)) (p ∷ ps)) v
@@ -122,7 +118,16 @@ trim_value l s cuts cuts' (p ∷ ps) v e o a = by (is_below p.stamp l) refl (tri
         ap₂ (λ x y. value_after x (value_after y v)) stay.0 stay.1
 
 pub trim_keeps : (r : Parts) (l : Line) (s : Stamp) → IsInOrder put_key r.puts → is_below s l ≡ false → record_value (trimmed l r) s ≡ record_value r s
-trim_keeps r l s o e = trim_value l s r.cuts (filter (cut_stays l (filter (put_stays l) r.puts)) r.cuts) r.puts r.base e o (live_alike l r.cuts r.puts)
+trim_keeps r l s o e =
+    let cuts = filter (cut_stays l (filter (put_stays l) r.puts)) r.cuts in
+    let seen = is_seen cuts (line.At s) in
+    ap₂ (λ x y. value_after x (value_after y r.base)) (ordered seen (filter (put_stays l) r.puts) ∙ ap (filter seen) (ordered (put_stays l) r.puts)) (ordered (is_seen r.cuts l) r.puts)
+    ∙ (trim_value l s r.cuts cuts (in_value_order r.puts) r.base e (add_rows-in_order value_key [] r.puts tt)
+    (each_rows value_key (λ p. put_stays l p ≡ true → is_live cuts p ≡ is_live r.cuts p) [] r.puts tt (live_alike l r.cuts r.puts))
+    ∙ ap (λ x. value_after x r.base) (sym (ordered (is_seen r.cuts (line.At s)) r.puts)))
+  where
+    ordered : (P : PutRow → Bool) (ps : List PutRow) → in_value_order (filter P ps) ≡ filter P (in_value_order ps)
+    ordered P ps = sym (filter_add_rows value_key P [] ps tt)
 
 pub trimmed-settled : (r : Parts) (l : Line) → IsSettled r → IsSettled (trimmed l r)
 trimmed-settled r l s = record {
@@ -139,35 +144,3 @@ trimmed-settled r l s = record {
     unless : (b : Bool) → not b ≡ true → b ≡ false
     unless true e = absurd cc
     unless false e = refl
-
-filter_rows : (P : PutRow → Bool) (hs : List Held) → map held_row (filter (λ (h : Held). P h.row) hs) ≡ filter P (map held_row hs)
-filter_rows P [] = refl
-filter_rows P (h ∷ hs) = by (P h.row) (filter_rows P hs)
-  where
-    by : (b : Bool) → map held_row (filter (λ (k : Held). P k.row) hs) ≡ filter P (map held_row hs) → map held_row (cond b (h ∷ filter (λ (k : Held). P k.row) hs) (filter (λ (k : Held). P k.row) hs)) ≡ cond b (h.row ∷ filter P (map held_row hs)) (filter P (map held_row hs))
-    by true again = ap (λ z. h.row ∷ z) again
-    by false again = again
-
-filter_marked : (P : PutRow → Bool) (cuts : List CutRow) (ps : List PutRow) → filter (λ (h : Held). P h.row) (map (marked cuts) ps) ≡ map (marked cuts) (filter P ps)
-filter_marked P cuts [] = refl
-filter_marked P cuts (p ∷ ps) = by (P p) (filter_marked P cuts ps)
-  where
-    by : (b : Bool) → filter (λ (h : Held). P h.row) (map (marked cuts) ps) ≡ map (marked cuts) (filter P ps) → cond b (marked cuts p ∷ filter (λ (h : Held). P h.row) (map (marked cuts) ps)) (filter (λ (h : Held). P h.row) (map (marked cuts) ps)) ≡ map (marked cuts) (cond b (p ∷ filter P ps) (filter P ps))
-    by true again = ap (λ z. marked cuts p ∷ z) again
-    by false again = again
-
-marks_alike : (cuts cuts' : List CutRow) (ps : List PutRow) → AllByRecursion (λ p. is_live cuts' p ≡ is_live cuts p) ps → map (marked cuts) ps ≡ map (marked cuts') ps
-marks_alike cuts cuts' [] a = refl
-marks_alike cuts cuts' (p ∷ ps) a = ap₂ (λ b z. record { row = p; live = b } ∷ z) (sym a.0) (marks_alike cuts cuts' ps a.1)
-
--- what is left in the lists that hold a record is its trimmed record
-pub trim_whole : (i : Inside) → IsSound i → (l : Line) (v : Value) → v ≡ value_below (parts_of i) l → (hs' : List Held) → hs' ≡ filter (held_stays l) i.puts.items → (ys : List Held) → ys ≡ hs' → (cuts' : List CutRow) → cuts' ≡ filter (cut_is_kept l ys) i.cuts.items
-    → (reads' : List ReadRow) → reads' ≡ filter (read_stays l) i.reads.items → (parts_by v hs' cuts' reads' ≡ trimmed l (parts_of i)) × (hs' ≡ map (marked cuts') (map held_row hs'))
-trim_whole i s l v is_v hs' kept ys is_ys cuts' cut reads' read =
-    let rows : map held_row hs' ≡ filter (put_stays l) (map held_row i.puts.items) = ap (map held_row) kept ∙ filter_rows (put_stays l) i.puts.items in
-    let test : cut_is_kept l ys ≡ cut_stays l (filter (put_stays l) (map held_row i.puts.items)) = λ k c. (ap (λ b. not (is_below c.stamp l) || b) (ap (has_num held_key c.num) is_ys ∙ (has_held c.num hs' ∙ ap (has_num put_key c.num) rows))) k in
-    let cuts_are : cuts' ≡ filter (cut_stays l (filter (put_stays l) (map held_row i.puts.items))) i.cuts.items = cut ∙ ap (λ t. filter t i.cuts.items) test in
-    let marks : hs' ≡ map (marked i.cuts.items) (filter (put_stays l) (map held_row i.puts.items)) = kept ∙ (ap (filter (held_stays l)) s.marks ∙ filter_marked (put_stays l) i.cuts.items (map held_row i.puts.items)) in
-    let alike = marks_alike i.cuts.items (filter (cut_stays l (filter (put_stays l) (map held_row i.puts.items))) i.cuts.items) (filter (put_stays l) (map held_row i.puts.items))
-    (passed (put_stays l) (λ p. is_live (filter (cut_stays l (filter (put_stays l) (map held_row i.puts.items))) i.cuts.items) p ≡ is_live i.cuts.items p) (map held_row i.puts.items) (live_alike l i.cuts.items (map held_row i.puts.items))) in
-    ((λ k. record { base = is_v k; puts = rows k; cuts = cuts_are k; reads = read k }), marks ∙ (alike ∙ ap₂ (λ y z. map (marked y) z) (sym cuts_are) (sym rows)))

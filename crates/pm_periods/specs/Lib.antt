@@ -1,6 +1,9 @@
+pub mod HeldPeriods
 pub mod Inner
+pub mod Laid
 pub mod Periods
 pub mod Places
+pub mod Received
 pub mod Records
 pub mod Rows
 pub mod Sample

@@ -17,7 +17,8 @@ use Rattle.pm_base.specs.declared.stamp.Num.{Num}
 use Rattle.pm_base.specs.declared.stamp.Stamp.{Stamp}
 use Rattle.pm_base.specs.declared.value.Value.{Value}
 use Rattle.pm_base.specs.declared.value.Window.{Window}
-use Rattle.pm_periods.specs.Rows.{AreDistinct, IsInOrder, add_row, cut_key, has_num, put_key, read_key, rows_in_order}
+use Rattle.pm_periods.specs.Rows.{AreDistinct, IsInOrder, add_row, add_rows, cut_key, has_num, put_key, read_key}
+use Rattle.pm_periods.specs.Rows.{rows_in_order, value_key}
 
 -- the record of the variable of this number
 pub record Record : Type 0 where
@@ -37,10 +38,19 @@ abbrev pub value_after : List PutRow → Value → Value
 value_after [] v = v
 value_after (p ∷ ps) v = value_after ps (applied p.change v)
 
--- the base after the changes of the live puts below the line, in the order of the list. An agent's stamps are its own,
--- so puts of one stamp have one agent, and their numbers are in the order in which it made them
+-- the order in which puts change the value: by stamp, then by the count of their numbers, then by agent, so that of two
+-- puts with one stamp and one count the one of the greater agent is the later
+abbrev pub in_value_order : List PutRow → List PutRow
+in_value_order ps = add_rows value_key [] ps
+
+-- puts of one stamp have one agent
+abbrev pub HaveOneAgent : List PutRow → Type 0
+HaveOneAgent [] = Unit {0}
+HaveOneAgent (p ∷ ps) = AllByRecursion (λ q. q.stamp ≡ p.stamp → q.num.agent ≡ p.num.agent) ps × HaveOneAgent ps
+
+-- the base after the changes of the live puts below the line, in the order in which puts change the value
 abbrev pub value_below : Parts → Line → Value
-value_below r l = value_after (filter (is_seen r.cuts l) r.puts) r.base
+value_below r l = value_after (in_value_order (filter (is_seen r.cuts l) r.puts)) r.base
 
 -- what a read at this stamp sees: a put at that very stamp isn't seen
 abbrev pub record_value : Parts → Stamp → Value

@@ -47,6 +47,22 @@ unseen = record { num = record { agent = 1; seq = 2 }; stamp = at 5 1; change = 
 abbrev pub withdrawal : CutRow
 withdrawal = cut_row late.num late.stamp
 
+-- two writes at one stamp: the count of the first one's number is 9 and its agent 0, of the second one's 7 and 1
+abbrev pub ninth : PutRow
+ninth = record { num = record { agent = 0; seq = 9 }; stamp = at 3 0; change = change.Set (pair 5) }
+
+-- the second one comes first, whatever its agent
+abbrev pub seventh : PutRow
+seventh = record { num = record { agent = 1; seq = 7 }; stamp = at 3 0; change = change.Set (pair 2) }
+
+-- a read that sees both
+abbrev pub tie_read : ReadRow
+tie_read = first_read (record { agent = 2; seq = 1 }) (at 4 2) whole
+
+-- the record after both
+abbrev pub was_tied : Parts
+was_tied = after_put seventh (after_put ninth fresh)
+
 -- the record after the read
 abbrev pub was_read : Parts
 was_read = after_watch read fresh
@@ -65,7 +81,7 @@ was_withdrawn = after_cut withdrawal was_written_again
 
 -- what the record gives at each of these rows: (0,0) to the read, (7,0) after the late write, nothing for the unseen
 -- one, (0,0) again after the withdrawal, nothing for a read that is known; then what is seen at (6,0), the periods
--- after (4,0), and what is left below (6,0)
+-- after (4,0), and what is left below (6,0); and what a read sees of two writes at one stamp
 pub record SampleRecord : Type 0 where
   pub reads : gives_of_watch 4 read fresh ≡ given 1 0
   pub writes : gives_of_put 4 late was_read ≡ given 2 7
@@ -76,4 +92,6 @@ pub record SampleRecord : Type 0 where
   pub periods : periods_from was_withdrawn (Some (at 4 0)) ≡
       record { when = record { from = Some (at 4 0); until = Some (at 5 1) }; value = pair 0 } ∷
       (record { when = record { from = Some (at 5 1); until = None }; value = pair 8 } ∷ [])
+  pub tie : gives_of_watch 4 tie_read was_tied ≡
+      record { num = tie_read.num; stamp = tie_read.stamp; var = 4; turn = 1; hit = Some (pair 5) } ∷ []
   pub trims : trimmed (line.At (at 6 0)) was_withdrawn ≡ record { base = pair 8; puts = []; cuts = []; reads = [] }

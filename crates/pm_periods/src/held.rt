@@ -1,104 +1,86 @@
-// Puts with the mark whether they are live, and one walk along them that tells what each read sees.
-ghost use Rattle.std.specs.Prelude.{◌≡◌, ◌+◌, ◌≤◌, ◌<◌, ◌++◌, ◌∷◌, [], ◌^◌, take, drop, true};
-ghost use Rattle.std.specs.Prelude.{length, map, vec_len, vec_capacity};
-ghost use Rattle.pm_base.specs.declared.stamp.Line.TheVariants as line;
-ghost use Rattle.pm_periods.specs.Records.{HaveTurns, changed_of, fresh_read, hit_eq, hit_in, last_give, with_hit};
-ghost use Rattle.pm_periods.specs.Rows.{IsInOrder, read_key};
-ghost use Rattle.pm_periods.specs.Walks.{IsSet, held_key, held_value, marked, seen_by, step, walk};
+// Periods of a record: a write, what is seen after it, and the reads that see it.
+ghost use Rattle.std.specs.Prelude.{◌≡◌, ◌≤◌, ◌<◌, ◌++◌, ◌∷◌, [], ◌^◌, OnOk, take, drop, length, map, true, false};
+ghost use Rattle.std.specs.List.{AllByRecursion};
+ghost use Rattle.pm_periods.specs.Laid.{AreLaid, AreLinked, AreOrdered, BeginAtBase, IsBehindPut, IsUpToPut, base_of};
+ghost use Rattle.pm_periods.specs.Laid.{begins_below, changed, is_later, puts_of, reads_of, renewed, renewed_one, told};
+ghost use Rattle.pm_periods.specs.Laid.{value_under};
+ghost use Rattle.pm_base.specs.Changes.{value_eq};
+ghost use Rattle.pm_periods.specs.Records.{HaveTurns, changed_of, fresh_read, hit_eq, hit_in, last_give};
 
-use crate::rows::{Row, RowKey, has};
-use pm_base::{Change, CutRow, GiveRow, Line, PutRow, ReadRow, Stamp, Value, Window};
+use crate::rows::is_applied_before;
+use pm_base::{GiveRow, Line, List, Memory, PutRow, ReadRow, Value, Window};
 
-// A put as it is kept: live where no received cut names it.
-#[derive(Clone, Copy, Debug, PartialEq, Eq)]
+/// A period of a record: from one live write to the next.
+#[derive(Debug, Drop)]
 pub struct Held {
-    pub row: PutRow,
-    pub live: bool,
-}
-
-impl Row for Held {
-    ghost key = { held_key };
-
-    fn key(&self) -> RowKey {
-        self.row.key()
-    }
+    /// The write that begins it; none where it is the first, which the base begins.
+    pub put: Option<PutRow>,
+    /// What is seen in it.
+    pub value: Value,
+    /// The reads made in it, in order of stamp and number.
+    pub reads: List<ReadRow>,
 }
 
 impl Held {
-    // The put with its mark, beside these cuts.
-    pub fn beside(cuts: &[CutRow], row: PutRow) -> Held
-        ensures { result ≡ marked cuts.now row }
+    // What is seen in the period where this value is seen before it.
+    fn after(&self, value: Value) -> Value
+        ensures { result ≡ changed self.now.put value }
     {
-        let live = !has(cuts, row.num);
-        Held { row, live }
-    }
-
-    // Whether the put is live and sets a value, so that nothing before it matters.
-    pub fn is_set(&self) -> bool
-        ensures { result ≡ true → IsSet self.now }
-    {
-        match &self.row.change {
-            Change::Set(_) => self.live,
-            Change::Add(_) => false,
+        match &self.put {
+            Some(row) => row.change.apply(value),
+            None => value,
         }
     }
 
-    // The value after this put, where it is live.
-    pub fn apply(&self, value: Value) -> Value
-        ensures { result ≡ step self.now value }
+    // Whether its write changes the value after that one does.
+    fn is_later(&self, row: &PutRow) -> bool
+        ensures { result ≡ is_later row.now self.now.put }
     {
-        if self.live {
-            self.row.change.apply(value)
-        } else {
-            value
+        match &self.put {
+            Some(put) => is_applied_before(row, put),
+            None => false,
+        }
+    }
+
+    // Whether it begins below the line.
+    fn is_below(&self, line: Line) -> bool
+        ensures { result ≡ begins_below line self.now.put }
+    {
+        match &self.put {
+            Some(put) => line.is_past(put.stamp),
+            None => true,
         }
     }
 }
 
-// How far a walk along the puts has come: the puts before this place are below its line, and the value is what is seen
-// there.
-#[derive(Clone, Copy, Debug, PartialEq, Eq)]
-pub struct Seen {
-    pub at: usize,
-    pub value: Value,
-}
-
-// On to that line.
-pub fn advance(puts: &[Held], from: Seen, line: Line) -> Seen
-    ensures { walk line (drop from.at puts.now) from.value ≡
-        record { rest = drop result.at puts.now; value = result.value } }
+// How many periods begin no later than this write changes the value.
+pub fn place(periods: &[Held], row: &PutRow) -> usize
+    requires { AreOrdered periods.now }
+    ensures within { result ≤ length periods.now }
+    ensures before { AllByRecursion (IsUpToPut row.now) (take result periods.now) }
+    ensures after { AllByRecursion (IsBehindPut row.now) (drop result periods.now) }
 {
-    let mut at = from.at;
-    let mut value = from.value;
-    while at < puts.len() && line.is_past(puts[at].row.stamp) {
-        value = puts[at].apply(value);
-        at += 1;
-    }
-    Seen { at, value }
+    periods.partition_point(|h| !h.is_later(row))
+}
+
+// How many periods begin below the line: the last of them has what is seen there.
+pub fn reach(periods: &[Held], line: Line) -> usize
+    requires { AreOrdered periods.now }
+    ensures within { result ≤ length periods.now }
+    ensures before { AllByRecursion (λ (h : Held). begins_below line h.put ≡ true) (take result periods.now) }
+    ensures after { AllByRecursion (λ (h : Held). begins_below line h.put ≡ false) (drop result periods.now) }
+{
+    periods.partition_point(|h| h.is_below(line))
 }
 
 // What is seen at the line.
-pub fn value_at_line(puts: &[Held], base: Value, line: Line) -> Value
-    requires { IsInOrder held_key puts.now }
-    ensures { result ≡ held_value line puts.now base }
+pub fn value_at_line(periods: &[Held], line: Line) -> Value
+    requires begins { BeginAtBase periods.now }
+    requires order { AreOrdered periods.now }
+    requires laid { AreLaid (base_of periods.now) periods.now }
+    ensures { result ≡ value_under line (puts_of periods.now) (base_of periods.now) }
 {
-    advance(puts, Seen { at: 0, value: base }, line).value
-}
-
-// What a read at the stamp sees.
-pub fn seen_at(puts: &[Held], base: Value, s: Stamp) -> Value
-    requires { IsInOrder held_key puts.now }
-    ensures { result ≡ seen_by puts.now base s }
-{
-    value_at_line(puts, base, Line::At(s))
-}
-
-// What is seen at the line becomes the base.
-pub fn raise_base(base: &mut Value, puts: &[Held], line: Line)
-    requires { IsInOrder held_key puts.now }
-    ensures { base.new ≡ held_value line puts.now base.old }
-{
-    *base = value_at_line(puts, *base, line);
+    periods[reach(periods, line) - 1].value
 }
 
 pub fn hit_in(value: Value, window: &Window) -> Option<Value>
@@ -111,11 +93,17 @@ pub fn hit_in(value: Value, window: &Window) -> Option<Value>
     }
 }
 
+fn is_same_value(v: Value, w: Value) -> bool
+    ensures { result ≡ value_eq v w }
+{
+    v.x == w.x && v.y == w.y
+}
+
 fn is_same_hit(a: &Option<Value>, b: &Option<Value>) -> bool
     ensures { result ≡ hit_eq a.now b.now }
 {
     match (a, b) {
-        (Some(v), Some(w)) => v.x == w.x && v.y == w.y,
+        (Some(v), Some(w)) => is_same_value(*v, *w),
         (None, None) => true,
         _ => false,
     }
@@ -133,59 +121,113 @@ pub fn give(var: u32, read: &ReadRow) -> GiveRow
     }
 }
 
-// Gives a read the hit of the value that it sees, where it was last given another one, and tells that.
-fn refresh_one(var: u32, value: Value, q: &mut ReadRow, gives: &mut Vec<GiveRow>)
-    requires turn { q.old.turn < 2 ^ 63 }
-    requires room { vec_len gives.old < vec_capacity gives.old }
-    ensures read { q.new ≡ fresh_read (λ _. value) q.old }
-    ensures gives { gives.new.items ≡ gives.old.items ++ changed_of var (λ _. value) (q.old ∷ []) }
-    ensures len { vec_len gives.new ≤ vec_len gives.old + 1 }
-    ensures capacity { vec_capacity gives.new ≡ vec_capacity gives.old }
+// Gives a read the hit of that value, where it was last given another one.
+pub fn refreshed(value: Value, q: &ReadRow) -> ReadRow
+    requires { q.now.turn < 2 ^ 63 }
+    ensures { result ≡ fresh_read (λ _. value) q.now }
 {
     let hit = hit_in(value, &q.window);
-    if !is_same_hit(&hit, &q.hit) {
-        q.turn += 1;
-        q.hit = hit;
-        gives.push_reserved(give(var, q));
+    if is_same_hit(&hit, &q.hit) {
+        return *q;
+    }
+    ReadRow {
+        num: q.num,
+        stamp: q.stamp,
+        window: q.window,
+        turn: q.turn + 1,
+        hit,
     }
 }
 
-// Gives each of the first reads, so many, the hit that it has now, where it was last given another one, and tells which
-// were given.
-pub fn refresh(
+// Tells the hit of that value, where the read was last given another one.
+fn tell_one(var: u32, value: Value, q: &ReadRow, gives: &mut Vec<GiveRow>) -> Result<(), Memory>
+    requires { q.now.turn < 2 ^ 63 }
+    ensures { OnOk result (gives.new.items ≡ gives.old.items ++ changed_of var (λ _. value) (q.now ∷ [])) }
+{
+    let hit = hit_in(value, &q.window);
+    if is_same_hit(&hit, &q.hit) {
+        return Ok(());
+    }
+    let turn = q.turn + 1;
+    gives.push(GiveRow {
+        num: q.num,
+        stamp: q.stamp,
+        var,
+        turn,
+        hit,
+    })?;
+    Ok(())
+}
+
+// Tells the hits of that value, of the reads that were last given another one.
+pub fn tell_reads(
     var: u32,
-    puts: &[Held],
-    base: Value,
-    reads: &mut [ReadRow],
-    many: usize,
+    value: Value,
+    reads: &[ReadRow],
     gives: &mut Vec<GiveRow>,
-)
-    requires puts { IsInOrder held_key puts.now }
-    requires reads { IsInOrder read_key reads.old }
-    requires turns { HaveTurns reads.old }
-    requires many { many ≤ length reads.old }
-    requires room { vec_len gives.old + many ≤ vec_capacity gives.old }
-    ensures reads { reads.new ≡ map (fresh_read (seen_by puts.now base)) (take many reads.old) ++ drop many reads.old }
-    ensures gives { gives.new.items ≡
-        gives.old.items ++ changed_of var (seen_by puts.now base) (take many reads.old) }
+) -> Result<(), Memory>
+    requires { HaveTurns reads.now }
+    ensures { OnOk result (gives.new.items ≡ gives.old.items ++ changed_of var (λ _. value) reads.now) }
 {
-    let mut seen = Seen { at: 0, value: base };
-    for at in 0..many {
-        let q = &mut reads[at];
-        seen = advance(puts, seen, Line::At(q.stamp));
-        refresh_one(var, seen.value, q, gives);
+    for q in reads {
+        tell_one(var, value, q, gives)?;
+    }
+    Ok(())
+}
+
+// Gives each read the hit of that value, where it was last given another one.
+pub fn refresh(value: Value, reads: &mut [ReadRow])
+    requires { HaveTurns reads.old }
+    ensures { reads.new ≡ map (fresh_read (λ _. value)) reads.old }
+{
+    for q in reads.iter_mut() {
+        *q = refreshed(value, q);
     }
 }
 
-// Gives each of the reads the hit that it has now, its turn as it was.
-pub fn set_hits(puts: &[Held], base: Value, reads: &mut [ReadRow])
-    requires puts { IsInOrder held_key puts.now }
-    requires reads { IsInOrder read_key reads.old }
-    ensures { reads.new ≡ map (with_hit (seen_by puts.now base)) reads.old }
+// Tells the hits that change where that value is seen before these periods, up to the first that keeps its value.
+pub fn tell(
+    var: u32,
+    before: Value,
+    periods: &[Held],
+    gives: &mut Vec<GiveRow>,
+) -> Result<(), Memory>
+    requires linked { AreLinked periods.now }
+    requires turns { HaveTurns (reads_of periods.now) }
+    ensures { OnOk result (gives.new.items ≡ gives.old.items ++ told var before periods.now) }
 {
-    let mut seen = Seen { at: 0, value: base };
-    for q in reads.iter_mut() {
-        seen = advance(puts, seen, Line::At(q.stamp));
-        q.hit = hit_in(seen.value, &q.window);
+    let mut value = before;
+    for h in periods {
+        value = h.after(value);
+        if is_same_value(value, h.value) {
+            return Ok(());
+        }
+        tell_reads(var, value, h.reads.as_slice(), gives)?;
+    }
+    Ok(())
+}
+
+// Gives the period that value, and its reads the hit of it.
+fn renew_one(value: Value, h: &mut Held)
+    requires { HaveTurns h.old.reads }
+    ensures { h.new ≡ renewed_one value h.old }
+{
+    h.value = value;
+    refresh(value, h.reads.as_mut_slice());
+}
+
+// Has that value seen before these periods, up to the first that keeps its value.
+pub fn renew(before: Value, periods: &mut [Held])
+    requires linked { AreLinked periods.old }
+    requires turns { HaveTurns (reads_of periods.old) }
+    ensures { periods.new ≡ renewed before periods.old }
+{
+    let mut value = before;
+    for h in periods.iter_mut() {
+        value = h.after(value);
+        if is_same_value(value, h.value) {
+            return;
+        }
+        renew_one(value, h);
     }
 }

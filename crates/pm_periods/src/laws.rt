@@ -1,9 +1,12 @@
 // Laws of the definitions, and of every record.
-ghost use Rattle.std.specs.Prelude.{◌≡◌, ◌≢◌, ◌↔◌, false, IsTrue};
+ghost use Rattle.std.specs.Prelude.{◌≡◌, ◌≢◌, ◌↔◌, false, filter, IsTrue};
+ghost use Rattle.pm_base.specs.declared.stamp.Line.{Line};
 ghost use Rattle.pm_base.specs.Stamps.{is_below};
 ghost use Rattle.pm_periods.specs.Periods.{periods_from, value_after_start, values_at};
-ghost use Rattle.pm_periods.specs.Records.{IsSettled, after_cut, after_put, after_watch, is_stale, record_hit};
+ghost use Rattle.pm_periods.specs.Records.{HaveOneAgent, IsSettled, after_cut, after_put, after_watch, in_value_order};
+ghost use Rattle.pm_periods.specs.Records.{is_seen, is_stale, record_hit, value_after, value_below};
 ghost use Rattle.pm_periods.specs.Records.{record_value, settled, trimmed};
+ghost use Rattle.pm_periods.specs.Rows.{IsInOrder, put_key};
 ghost use Rattle.pm_periods.specs.Sample.{SampleRecord};
 
 use crate::VarRecord;
@@ -29,6 +32,14 @@ pub fn receipts_keep_settled(parts: &Parts, put: PutRow, cut: CutRow, read: Read
     ensures cut { IsSettled parts.now → IsSettled (after_cut cut parts.now) }
     ensures watch { IsSettled parts.now → IsSettled (after_watch read parts.now) }
     ensures trim { IsSettled parts.now → IsSettled (trimmed line parts.now) }
+{}
+
+/// A law of the definitions: where puts of one stamp have one agent they change the value in the order of their list.
+pub fn lists_have_value_order(parts: &Parts)
+    ensures order { IsInOrder put_key parts.now.puts → HaveOneAgent parts.now.puts →
+        in_value_order parts.now.puts ≡ parts.now.puts }
+    ensures value { IsInOrder put_key parts.now.puts → HaveOneAgent parts.now.puts → (l : Line) →
+        value_below parts.now l ≡ value_after (filter (is_seen parts.now.cuts l) parts.now.puts) parts.now.base }
 {}
 
 /// A law of the definitions: a read is given a hit exactly where it has another one than it was last given.

@@ -11,8 +11,9 @@ mod rows;
 #[cfg(test)]
 mod tests;
 
+pub use held::Held;
 pub use laws::{
-    periods_cover, receipts_keep_settled, records_are_settled, sample_record, settling_settles,
-    stale_reads_are_told, trimming_keeps_values,
+    lists_have_value_order, periods_cover, receipts_keep_settled, records_are_settled,
+    sample_record, settling_settles, stale_reads_are_told, trimming_keeps_values,
 };
 pub use record::VarRecord;

@@ -1,12 +1,12 @@
 // The values of a record over time.
-ghost use Rattle.std.specs.Prelude.{◌≡◌, ◌++◌, IfOk, OnOk};
+ghost use Rattle.std.specs.Prelude.{◌≡◌, ◌++◌, ◌∷◌, [], Some, if◌then◌else◌, IfOk, OnOk};
 ghost use Rattle.pm_periods.specs.Periods.{periods_from, value_after_start, values_at};
 ghost use Rattle.pm_base.specs.Stamps.{is_after};
-ghost use Rattle.pm_periods.specs.Walks.{ended, next_start, step};
+ghost use Rattle.pm_periods.specs.Walks.{ended_by, start_by};
 
 use crate::VarRecord;
 use crate::held::Held;
-use pm_base::{Interval, Line, List, Memory, Period, Stamp, Value};
+use pm_base::{Interval, List, Memory, Period, Stamp, Value};
 use std::alloc::Global;
 
 impl VarRecord {
@@ -20,9 +20,9 @@ impl VarRecord {
         let mut periods = List::new(alloc);
         let mut reached = Reached {
             from,
-            value: self.base,
+            value: self.periods[0].value,
         };
-        for h in &self.puts {
+        for h in &self.periods {
             reached = pass(&mut periods, reached, h)?;
         }
         periods.push(period(reached.from, None, reached.value))?;
@@ -37,20 +37,40 @@ struct Reached {
     value: Value,
 }
 
-// Past a put, which ends a period where it is live and stands after the start.
+// Past a period's begin, which ends the one before where it stands after the start.
 fn pass(periods: &mut List<Period>, reached: Reached, h: &Held) -> Result<Reached, Memory>
     ensures next { IfOk result (λ next. next ≡
-        record { from = next_start reached.from h.now; value = step h.now reached.value }) }
-    ensures ended { OnOk result (periods.new ≡ periods.old ++ ended reached.from reached.value h.now) }
+        record { from = start_by reached.from h.now.put; value = h.now.value }) }
+    ensures ended { OnOk result (periods.new ≡ periods.old ++ ended_by reached.from reached.value h.now.put) }
 {
-    let value = h.apply(reached.value);
-    if !h.live || !is_after(reached.from, h.row.stamp) {
+    let value = h.value;
+    match &h.put {
+        None => Ok(Reached {
+            from: reached.from,
+            value,
+        }),
+        Some(put) => pass_put(periods, reached, put.stamp, value),
+    }
+}
+
+// Past a write, which ends the period where it stands after the start.
+fn pass_put(
+    periods: &mut List<Period>,
+    reached: Reached,
+    stamp: Stamp,
+    value: Value,
+) -> Result<Reached, Memory>
+    ensures next { IfOk result (λ next. next ≡
+        record { from = if is_after reached.from stamp then Some stamp else reached.from; value = value }) }
+    ensures ended { OnOk result (periods.new ≡ periods.old ++ (if is_after reached.from stamp
+        then record { when = record { from = reached.from; until = Some stamp }; value = reached.value } ∷ [] else [])) }
+{
+    if !is_after(reached.from, stamp) {
         return Ok(Reached {
             from: reached.from,
             value,
         });
     }
-    let stamp = h.row.stamp;
     periods.push(period(reached.from, Some(stamp), reached.value))?;
     Ok(Reached {
         from: Some(stamp),

@@ -1,31 +1,43 @@
-ghost use Rattle.std.specs.Prelude.{◌≡◌, ◌+◌, ◌≤◌, ◌==◌, if◌then◌else◌, None, Some};
-ghost use Rattle.std.specs.Prelude.{◌∷◌, [], ◌++◌, ◌<◌, suc, true, false, filter, length, map, take, drop, vec_len};
-ghost use Rattle.std.specs.Prelude.{slice_index_or};
-ghost use Rattle.std.specs.Prelude.{vec_capacity, IfOk, OnOk, OnErr};
-ghost use Rattle.std.specs.List.{All, AllByRecursion};
+ghost use Rattle.std.specs.Prelude.{◌≡◌, ◌+◌, ◌≤◌, ◌<◌, ◌++◌, ◌∷◌, [], ◌==◌, IfOk, OnOk, OnErr, OnSome, ℕ, suc};
+ghost use Rattle.std.specs.Prelude.{take, drop, length, map, filter, set, true, false, None, Some, if◌then◌else◌};
+ghost use Rattle.std.specs.Prelude.{slice_index_or, vec_len, min, ◌^◌, ◌-◌};
+ghost use Rattle.std.specs.List.{AllByRecursion};
 ghost use Rattle.std.specs.Option.{option_to_list};
-ghost use Rattle.pm_base.specs.Stamps.{is_below, stamp_lt};
+ghost use Rattle.pm_base.specs.Stamps.{is_below, num_eq, stamp_lt};
+ghost use Rattle.pm_periods.specs.HeldPeriods.{held_of};
+ghost use Rattle.pm_periods.specs.Laid.{AreLaid, AreLinked, AreOrdered, Begin, BeginAtBase, End, base_of, cut_of};
+ghost use Rattle.pm_periods.specs.Laid.{is_of, puts_of, reads_of, renewed, told, with_reads, withdrawal};
+ghost use Rattle.pm_periods.specs.Laid.{Entered, Trim, put_kept, trimmed_period, trimmed_withdrawal};
+ghost use Rattle.pm_periods.specs.Laid.{withdrawal_key, withdrawal_stays, withdrawn_of};
 ghost use Rattle.pm_periods.specs.Records.{HaveTurns, after_cut, after_put, after_watch, changed_of, cut_row};
 ghost use Rattle.pm_periods.specs.Records.{empty_record, first_read, fresh_read, gives_of_cut, gives_of_put};
 ghost use Rattle.pm_periods.specs.Records.{gives_of_watch, kept_of, last_give, read_stays, record_value, trimmed};
-ghost use Rattle.pm_periods.specs.Records.{with_parts};
-ghost use Rattle.pm_periods.specs.Rows.{IsInOrder, read_key};
-ghost use Rattle.pm_periods.specs.Walks.{CannotSee, IsSet, SeesSet, cut_is_kept, held_key, held_stays, seen_by, withdrawn_at};
+ghost use Rattle.pm_periods.specs.Records.{record_hit, with_parts, with_read};
+ghost use Rattle.pm_periods.specs.Rows.{IsInOrder, add_row, put_key, has_num, read_key};
 
-use crate::held::{Held, give, hit_in, raise_base, refresh, seen_at};
-use crate::rows::{Row, RowKey, add, has, number_place, place};
+use crate::held::{
+    Held, give, place, reach, refresh, refreshed, renew, tell, tell_reads, value_at_line,
+};
+use crate::rows::{Row, RowKey, add, has, number_place, place as row_place};
 use pm_base::{CutRow, GiveRow, Line, List, Memory, Num, PutRow, ReadRow, Stamp, Value, Window};
 use std::alloc::Global;
 use std::marker::Model;
+use std::mem;
+
+// A received cut, with the put that it names, where that was received.
+#[derive(Clone, Copy, Debug, PartialEq, Eq)]
+pub struct Withdrawal {
+    pub cut: CutRow,
+    pub put: Option<PutRow>,
+}
 
 /// One variable's record. Contracts see it as the variable's number and the record's `Parts`.
 #[derive(Debug, Drop)]
 pub struct VarRecord {
     pub(crate) var: u32,
-    pub(crate) base: Value,
-    pub(crate) puts: Vec<Held>,
-    pub(crate) cuts: Vec<CutRow>,
-    pub(crate) reads: Vec<ReadRow>,
+    pub(crate) alloc: Global,
+    pub(crate) periods: Vec<Held>,
+    pub(crate) withdrawals: Vec<Withdrawal>,
 }
 
 impl Model for VarRecord {
@@ -45,12 +57,17 @@ impl VarRecord {
     pub fn new(alloc: Global, var: u32, base: Value) -> Result<VarRecord, Memory>
         ensures { IfOk result (λ made. made ≡ empty_record var base) }
     {
+        let mut periods = Vec::with_capacity(alloc, 1)?;
+        periods.push(Held {
+            put: None,
+            value: base,
+            reads: List::new(alloc),
+        })?;
         Ok(VarRecord {
             var,
-            base,
-            puts: Vec::new(alloc),
-            cuts: Vec::new(alloc),
-            reads: Vec::new(alloc),
+            alloc,
+            periods,
+            withdrawals: Vec::new(alloc),
         })
     }
 
@@ -61,25 +78,19 @@ impl VarRecord {
         ensures gives { IfOk result (λ gives. gives ≡ gives_of_put self.old.var row self.old.parts) }
         ensures err { OnErr result (self.new ≡ self.old) }
     {
-        if has(self.puts.as_slice(), row.num) {
+        if has_put(
+            self.periods.as_slice(),
+            self.withdrawals.as_slice(),
+            row.num,
+        ) {
             return Ok(List::new(alloc));
         }
-        let held = Held::beside(self.cuts.as_slice(), row);
-        let after = reads_up_to(self.reads.as_slice(), row.stamp);
-        let behind = place(self.puts.as_slice(), row.key());
-        let many = before_set(self.reads.as_slice(), after, self.puts.as_slice(), behind);
-        let mut gives = Vec::with_capacity(alloc, many)?;
-        add(&mut self.puts, held)?;
-        let reads = &mut self.reads;
-        refresh_from(
-            self.var,
-            self.puts.as_slice(),
-            self.base,
-            reads,
-            after,
-            many,
-            &mut gives,
-        );
+        let named = number_place(self.withdrawals.as_slice(), row.num);
+        if named < self.withdrawals.len() {
+            hold_put(&mut self.withdrawals, named, row);
+            return Ok(List::new(alloc));
+        }
+        let gives = begin_period(alloc, self.var, &mut self.periods, row)?;
         Ok(List::from_vec(gives))
     }
 
@@ -91,25 +102,24 @@ impl VarRecord {
         ensures gives { IfOk result (λ gives. gives ≡ gives_of_cut self.old.var (cut_row num stamp) self.old.parts) }
         ensures err { OnErr result (self.new ≡ self.old) }
     {
-        if has(self.cuts.as_slice(), num) {
+        let named = number_place(self.withdrawals.as_slice(), num);
+        if named < self.withdrawals.len() {
             return Ok(List::new(alloc));
         }
-        let named = number_place(self.puts.as_slice(), num);
-        let after = reads_without(self.reads.as_slice(), self.puts.as_slice(), named);
-        let many = before_next_set(self.reads.as_slice(), after, self.puts.as_slice(), named);
-        let mut gives = Vec::with_capacity(alloc, many)?;
-        add(&mut self.cuts, CutRow { num, stamp })?;
-        withdraw(&mut self.puts, named);
-        let reads = &mut self.reads;
-        refresh_from(
+        let cut = CutRow { num, stamp };
+        let at = put_place(self.periods.as_slice(), num);
+        if at >= self.periods.len() {
+            add(&mut self.withdrawals, Withdrawal { cut, put: None })?;
+            return Ok(List::new(alloc));
+        }
+        let gives = end_period(
+            alloc,
             self.var,
-            self.puts.as_slice(),
-            self.base,
-            reads,
-            after,
-            many,
-            &mut gives,
-        );
+            &mut self.periods,
+            &mut self.withdrawals,
+            at,
+            cut,
+        )?;
         Ok(List::from_vec(gives))
     }
 
@@ -127,12 +137,22 @@ impl VarRecord {
             gives_of_watch self.old.var (first_read num stamp window) self.old.parts) }
         ensures err { OnErr result (self.new ≡ self.old) }
     {
-        if has(self.reads.as_slice(), num) {
+        let _ = alloc;
+        if has_read(self.periods.as_slice(), num) {
             return Ok(None);
         }
-        let value = seen_at(self.puts.as_slice(), self.base, stamp);
-        let row = first_row(num, stamp, window, value);
-        add(&mut self.reads, row)?;
+        let value = value_at_line(self.periods.as_slice(), Line::At(stamp));
+        let row = refreshed(
+            value,
+            &ReadRow {
+                num,
+                stamp,
+                window,
+                turn: 0,
+                hit: None,
+            },
+        );
+        add_read(&mut self.periods, row)?;
         Ok(first_give(self.var, &row))
     }
 
@@ -140,7 +160,7 @@ impl VarRecord {
     pub fn value_at(&self, s: Stamp) -> Value
         ensures { result ≡ record_value self.now.parts s }
     {
-        seen_at(self.puts.as_slice(), self.base, s)
+        value_at_line(self.periods.as_slice(), Line::At(s))
     }
 
     /// Forgets what is below the line, and keeps what a read at any stamp not below it sees. It takes no memory.
@@ -149,70 +169,387 @@ impl VarRecord {
         ensures keeps { (s : Stamp) → is_below s line ≡ false →
             record_value self.new.parts s ≡ record_value self.old.parts s }
     {
-        raise_base(&mut self.base, self.puts.as_slice(), line);
-        keep_puts(&mut self.puts, line);
-        keep_cuts(&mut self.cuts, self.puts.as_slice(), line);
-        keep_reads(&mut self.reads, line);
+        trim_periods(self.alloc, &mut self.periods, line);
+        trim_withdrawals(&mut self.withdrawals, line);
     }
 
     /// How many puts, cuts and reads are kept, at most `u64::MAX`. It takes no memory.
     pub fn kept(&self) -> u64
         ensures { result ≡ kept_of self.now.parts }
     {
-        let puts = self.puts.len() as u64;
-        let cuts = self.cuts.len() as u64;
-        let reads = self.reads.len() as u64;
-        puts.saturating_add(cuts).saturating_add(reads)
+        let periods = periods_kept(self.periods.as_slice());
+        let withdrawals = withdrawals_kept(self.withdrawals.as_slice());
+        periods.saturating_add(withdrawals)
+    }
+
+    // Enters a read that has its hit, its turn as it is.
+    pub(crate) fn enter(&mut self, row: ReadRow) -> Result<(), Memory>
+        requires hit { row.hit ≡ record_hit self.old.parts row }
+        requires new { has_num read_key row.num self.old.parts.reads ≡ false }
+        ensures ok { OnOk result (self.new ≡ with_parts self.old (with_read row self.old.parts)) }
+        ensures err { OnErr result (self.new ≡ self.old) }
+    {
+        add_read(&mut self.periods, row)?;
+        Ok(())
+    }
+
+    /// The periods as they are kept. It takes no memory.
+    pub fn held(&self) -> &[Held]
+        ensures { result.now ≡ held_of self.now.parts }
+    {
+        self.periods.as_slice()
     }
 }
 
-// How many of the reads don't stand after the stamp: no put there is seen by them.
+// How many rows the period has.
+fn period_kept(h: &Held) -> u64
+    ensures { result ≡ min (length (option_to_list h.now.put) + length h.now.reads) (2 ^ 64 - 1) }
+{
+    let reads = h.reads.len() as u64;
+    match &h.put {
+        Some(_) => reads.saturating_add(1),
+        None => reads,
+    }
+}
+
+// How many rows the periods have.
+fn periods_kept(periods: &[Held]) -> u64
+    ensures { result ≡ min (length (puts_of periods.now) + length (reads_of periods.now)) (2 ^ 64 - 1) }
+{
+    let mut kept = 0u64;
+    for h in periods {
+        kept = kept.saturating_add(period_kept(h));
+    }
+    kept
+}
+
+// How many rows the withdrawal has.
+fn withdrawal_kept(w: &Withdrawal) -> u64
+    ensures { result ≡ length (option_to_list w.now.put) + 1 }
+{
+    match &w.put {
+        Some(_) => 2,
+        None => 1,
+    }
+}
+
+// How many rows the withdrawals have.
+fn withdrawals_kept(withdrawals: &[Withdrawal]) -> u64
+    ensures { result ≡ min (length (withdrawn_of withdrawals.now) + length withdrawals.now) (2 ^ 64 - 1) }
+{
+    let mut kept = 0u64;
+    for w in withdrawals {
+        kept = kept.saturating_add(withdrawal_kept(w));
+    }
+    kept
+}
+
+// Keeps the put that the cut of that place names.
+fn hold_put(withdrawals: &mut Vec<Withdrawal>, at: usize, row: PutRow)
+    requires { at < length withdrawals.old.items }
+    ensures { (d : Withdrawal) → withdrawals.new.items ≡
+        set withdrawals.old.items at (withdrawal (slice_index_or withdrawals.old.items at d).cut row) }
+{
+    withdrawals[at].put = Some(row);
+}
+
+// Whether the period's write has that number.
+fn is_of(h: &Held, num: Num) -> bool
+    ensures { result ≡ is_of num h.now.put }
+{
+    match &h.put {
+        Some(put) => put.num.agent == num.agent && put.num.seq == num.seq,
+        None => false,
+    }
+}
+
+// The place of the period whose write has that number; how many periods there are where none has it.
+fn put_place(periods: &[Held], num: Num) -> usize
+    ensures within { result ≤ length periods.now }
+    ensures found { (d : Held) → result < length periods.now →
+        is_of num (slice_index_or periods.now result d).put ≡ true }
+    ensures others { AllByRecursion (λ (h : Held). is_of num h.put ≡ false) (take result periods.now) }
+{
+    let mut at = 0;
+    while at < periods.len() && !is_of(&periods[at], num) {
+        at += 1;
+    }
+    at
+}
+
+fn is_put_of(w: &Withdrawal, num: Num) -> bool
+    ensures { result ≡ is_of num w.now.put }
+{
+    match &w.put {
+        Some(put) => put.num.agent == num.agent && put.num.seq == num.seq,
+        None => false,
+    }
+}
+
+fn has_withdrawn(withdrawals: &[Withdrawal], num: Num) -> bool
+    ensures { result ≡ has_num put_key num (withdrawn_of withdrawals.now) }
+{
+    for w in withdrawals {
+        if is_put_of(w, num) {
+            return true;
+        }
+    }
+    false
+}
+
+// Whether a put of that number was received.
+fn has_put(periods: &[Held], withdrawals: &[Withdrawal], num: Num) -> bool
+    ensures { result ≡ has_num put_key num (puts_of periods.now ++ withdrawn_of withdrawals.now) }
+{
+    put_place(periods, num) < periods.len() || has_withdrawn(withdrawals, num)
+}
+
+// Whether a read of that number was received.
+fn has_read(periods: &[Held], num: Num) -> bool
+    ensures { result ≡ has_num read_key num (reads_of periods.now) }
+{
+    for h in periods {
+        if has(h.reads.as_slice(), num) {
+            return true;
+        }
+    }
+    false
+}
+
+// How many of the reads don't stand after the stamp.
 fn reads_up_to(reads: &[ReadRow], stamp: Stamp) -> usize
     requires { IsInOrder read_key reads.now }
     ensures within { result ≤ length reads.now }
-    ensures before { All (λ q. stamp_lt stamp q.stamp ≡ false) (take result reads.now) }
+    ensures before { AllByRecursion (λ (q : ReadRow). stamp_lt stamp q.stamp ≡ false) (take result reads.now) }
+    ensures after { AllByRecursion (λ (q : ReadRow). stamp_lt stamp q.stamp ≡ true) (drop result reads.now) }
 {
-    let num = Num {
-        agent: u32::MAX,
-        seq: u64::MAX,
+    reads.partition_point(|q| !stamp.is_before(&q.stamp))
+}
+
+// The reads behind so many of them, each with the hit of that value.
+fn later_reads(
+    alloc: Global,
+    value: Value,
+    reads: &[ReadRow],
+    split: usize,
+) -> Result<Vec<ReadRow>, Memory>
+    requires within { split ≤ length reads.now }
+    requires turns { HaveTurns (drop split reads.now) }
+    ensures { IfOk result (λ later. later.items ≡ map (fresh_read (λ _. value)) (drop split reads.now)) }
+{
+    let mut later = Vec::from_slice(alloc, &reads[split..])?;
+    refresh(value, later.as_mut_slice());
+    Ok(later)
+}
+
+// Leaves so many of the first reads.
+fn leave(alloc: Global, reads: &mut List<ReadRow>, many: usize)
+    ensures { reads.new ≡ take many reads.old }
+{
+    let mut left = mem::replace(reads, List::new(alloc)).into_vec();
+    left.truncate(many);
+    *reads = List::from_vec(left);
+}
+
+// Tells the hits of that value, of the reads behind so many.
+fn tell_behind(
+    var: u32,
+    value: Value,
+    reads: &[ReadRow],
+    split: usize,
+    gives: &mut Vec<GiveRow>,
+) -> Result<(), Memory>
+    requires within { split ≤ length reads.now }
+    requires turns { HaveTurns (drop split reads.now) }
+    ensures { OnOk result (gives.new.items ≡ gives.old.items ++ changed_of var (λ _. value) (drop split reads.now)) }
+{
+    tell_reads(var, value, &reads[split..], gives)
+}
+
+// Tells the hits that change where that value is seen before the periods from that place on.
+fn tell_from(
+    var: u32,
+    value: Value,
+    periods: &[Held],
+    from: usize,
+    gives: &mut Vec<GiveRow>,
+) -> Result<(), Memory>
+    requires within { from ≤ length periods.now }
+    requires linked { AreLinked (drop from periods.now) }
+    requires turns { HaveTurns (reads_of (drop from periods.now)) }
+    ensures { OnOk result (gives.new.items ≡ gives.old.items ++ told var value (drop from periods.now)) }
+{
+    tell(var, value, &periods[from..], gives)
+}
+
+// Has that value seen before the periods from that place on.
+fn renew_from(value: Value, periods: &mut Vec<Held>, from: usize)
+    requires within { from ≤ length periods.old.items }
+    requires linked { AreLinked (drop from periods.old.items) }
+    requires turns { HaveTurns (reads_of (drop from periods.old.items)) }
+    ensures { periods.new.items ≡ take from periods.old.items ++ renewed value (drop from periods.old.items) }
+{
+    renew(value, &mut periods[from..]);
+}
+
+// Leaves so many of the first reads in the period of that place.
+fn leave_at(alloc: Global, periods: &mut Vec<Held>, at: usize, many: usize)
+    requires { at < length periods.old.items }
+    ensures { (d : Held) → periods.new.items ≡ set periods.old.items at
+        (with_reads (take many (slice_index_or periods.old.items at d).reads) (slice_index_or periods.old.items at d)) }
+{
+    leave(alloc, &mut periods[at].reads, many);
+}
+
+// Puts a period in its place, behind the one that its reads came from. After `Memory` the periods are unchanged.
+fn open_period(
+    alloc: Global,
+    periods: &mut Vec<Held>,
+    at: usize,
+    split: usize,
+    held: Held,
+) -> Result<(), Memory>
+    requires within { (0 < at) × (at ≤ length periods.old.items) }
+    requires laid { AreLaid (base_of periods.old.items) periods.old.items }
+    requires turns { HaveTurns (reads_of periods.old.items) }
+    ensures ok { OnOk result ((k : ℕ) → (d : Held) → suc k ≡ at →
+        periods.new.items ≡ take k periods.old.items ++
+        with_reads (take split (slice_index_or periods.old.items k d).reads) (slice_index_or periods.old.items k d) ∷
+        (held ∷ renewed held.value (drop at periods.old.items))) }
+    ensures err { OnErr result (periods.new.items ≡ periods.old.items) }
+{
+    let value = held.value;
+    periods.insert(at, held)?;
+    leave_at(alloc, periods, at - 1, split);
+    renew_from(value, periods, at + 1);
+    Ok(())
+}
+
+// Begins a period with that write, which takes the reads that see it out of the one before it, and tells the changed
+// hits. After `Memory` the periods are unchanged.
+fn begin_period(
+    alloc: Global,
+    var: u32,
+    periods: &mut Vec<Held>,
+    row: PutRow,
+) -> Result<Vec<GiveRow>, Memory>
+    requires begins { BeginAtBase periods.old.items }
+    requires order { AreOrdered periods.old.items }
+    requires laid { AreLaid (base_of periods.old.items) periods.old.items }
+    requires reads { IsInOrder read_key (reads_of periods.old.items) }
+    requires turns { HaveTurns (reads_of periods.old.items) }
+    ensures ok { IfOk result (λ gives. Begin var row periods.old.items periods.new.items gives.items) }
+    ensures err { OnErr result (periods.new.items ≡ periods.old.items) }
+{
+    let at = place(periods.as_slice(), &row);
+    let before = &periods[at - 1];
+    let value = row.change.apply(before.value);
+    let split = reads_up_to(before.reads.as_slice(), row.stamp);
+    let mut gives = Vec::new(alloc);
+    tell_behind(var, value, before.reads.as_slice(), split, &mut gives)?;
+    tell_from(var, value, periods.as_slice(), at, &mut gives)?;
+    let reads = later_reads(alloc, value, before.reads.as_slice(), split)?;
+    let held = Held {
+        put: Some(row),
+        value,
+        reads: List::from_vec(reads),
     };
-    place(reads, RowKey { stamp, num })
+    open_period(alloc, periods, at, split, held)?;
+    Ok(gives)
 }
 
-// How many of the first reads can't see the put of that place; all reads where none stands there.
-fn reads_without(reads: &[ReadRow], puts: &[Held], at: usize) -> usize
-    requires { IsInOrder read_key reads.now }
-    ensures within { result ≤ length reads.now }
-    ensures before { All (CannotSee puts.now at) (take result reads.now) }
+// The reads of two periods, those of the second with the hit of that value.
+fn joined(
+    alloc: Global,
+    value: Value,
+    first: &[ReadRow],
+    second: &[ReadRow],
+) -> Result<Vec<ReadRow>, Memory>
+    requires { HaveTurns second.now }
+    ensures { IfOk result (λ reads. reads.items ≡ first.now ++ map (fresh_read (λ _. value)) second.now) }
 {
-    if at < puts.len() {
-        return reads_up_to(reads, puts[at].row.stamp);
+    let mut reads = Vec::from_slice(alloc, first)?;
+    for q in second {
+        reads.push(refreshed(value, q))?;
     }
-    reads.len()
+    Ok(reads)
 }
 
-// The put of that place is live no more.
-fn withdraw(puts: &mut Vec<Held>, at: usize)
-    ensures { puts.new.items ≡ withdrawn_at at puts.old.items }
+// Has the period of that place hold these reads.
+fn set_reads(periods: &mut Vec<Held>, at: usize, reads: Vec<ReadRow>)
+    requires { at < length periods.old.items }
+    ensures items { (d : Held) → periods.new.items ≡
+        set periods.old.items at (with_reads reads.items (slice_index_or periods.old.items at d)) }
+    ensures len { vec_len periods.new ≡ vec_len periods.old }
 {
-    if at < puts.len() {
-        puts[at].live = false;
-    }
+    periods[at].reads = List::from_vec(reads);
 }
 
-// A new read that sees that value.
-fn first_row(num: Num, stamp: Stamp, window: Window, value: Value) -> ReadRow
-    ensures { result ≡ fresh_read (λ _. value) (first_read num stamp window) }
+// Drops the period of that place, the one before it with these reads.
+fn close_period(value: Value, periods: &mut Vec<Held>, at: usize, reads: Vec<ReadRow>)
+    requires within { (0 < at) × (at < length periods.old.items) }
+    requires laid { AreLaid (base_of periods.old.items) periods.old.items }
+    requires turns { HaveTurns (reads_of periods.old.items) }
+    ensures { (k : ℕ) → (d : Held) → suc k ≡ at → periods.new.items ≡ take k periods.old.items ++
+        with_reads reads.items (slice_index_or periods.old.items k d) ∷
+        renewed value (drop (at + 1) periods.old.items) }
 {
-    let hit = hit_in(value, &window);
-    let turn = if hit.is_some() { 1 } else { 0 };
-    ReadRow {
-        num,
-        stamp,
-        window,
-        turn,
-        hit,
-    }
+    set_reads(periods, at - 1, reads);
+    let _ = periods.remove(at);
+    renew_from(value, periods, at);
+}
+
+// Ends the period of that place: its write is withdrawn, its reads fall to the one before it. Tells the changed hits.
+// After `Memory` nothing is changed.
+fn end_period(
+    alloc: Global,
+    var: u32,
+    periods: &mut Vec<Held>,
+    withdrawals: &mut Vec<Withdrawal>,
+    at: usize,
+    cut: CutRow,
+) -> Result<Vec<GiveRow>, Memory>
+    requires within { (0 < at) × (at < length periods.old.items) }
+    requires named { (d : Held) → is_of cut.num (slice_index_or periods.old.items at d).put ≡ true }
+    requires laid { AreLaid (base_of periods.old.items) periods.old.items }
+    requires turns { HaveTurns (reads_of periods.old.items) }
+    requires cuts { IsInOrder withdrawal_key withdrawals.old.items }
+    ensures ok { IfOk result (λ gives. (p : PutRow) × (num_eq cut.num p.num ≡ true) ×
+        End var p periods.old.items periods.new.items gives.items ×
+        (withdrawals.new.items ≡ add_row withdrawal_key (withdrawal cut p) withdrawals.old.items)) }
+    ensures err { OnErr result ((periods.new.items ≡ periods.old.items) ×
+        (withdrawals.new.items ≡ withdrawals.old.items)) }
+{
+    let before = &periods[at - 1];
+    let ended = &periods[at];
+    let value = before.value;
+    let mut gives = Vec::new(alloc);
+    tell_reads(var, value, ended.reads.as_slice(), &mut gives)?;
+    tell_from(var, value, periods.as_slice(), at + 1, &mut gives)?;
+    let reads = joined(
+        alloc,
+        value,
+        before.reads.as_slice(),
+        ended.reads.as_slice(),
+    )?;
+    let put = ended.put;
+    add(withdrawals, Withdrawal { cut, put })?;
+    close_period(value, periods, at, reads);
+    Ok(gives)
+}
+
+// Puts a read into its period. After `Memory` the periods are unchanged.
+pub fn add_read(periods: &mut Vec<Held>, row: ReadRow) -> Result<(), Memory>
+    requires begins { BeginAtBase periods.old.items }
+    requires order { AreOrdered periods.old.items }
+    requires reads { IsInOrder read_key (reads_of periods.old.items) }
+    ensures ok { OnOk result (Entered row periods.old.items periods.new.items) }
+    ensures err { OnErr result (periods.new.items ≡ periods.old.items) }
+{
+    let at = reach(periods.as_slice(), Line::At(row.stamp)) - 1;
+    let place = row_place(periods[at].reads.as_slice(), row.key());
+    periods[at].reads.insert(place, row)?;
+    Ok(())
 }
 
 // The hit that a new read was given, if it was given one.
@@ -226,122 +563,59 @@ fn first_give(var: u32, row: &ReadRow) -> Option<GiveRow>
     }
 }
 
-// The place of the first live put from that place on that sets a value; not below the length where there is none.
-fn next_set(puts: &[Held], from: usize) -> usize
-    ensures { (d : Held) → result < length puts.now → (from ≤ result) × IsSet (slice_index_or puts.now result d) }
-{
-    let mut at = from;
-    while at < puts.len() {
-        if puts[at].is_set() {
-            return at;
-        }
-        at += 1;
-    }
-    at
-}
-
-// How many of the reads don't stand after the stamp: those behind them do.
-#[tactic(auto, using(crate::proofs::Receipts::later_reads, crate::proofs::Receipts::none_later))]
-fn first_after(reads: &[ReadRow], stamp: Stamp) -> usize
-    requires { IsInOrder read_key reads.now }
-    ensures within { result ≤ length reads.now }
-    ensures later { AllByRecursion (λ q. stamp_lt stamp q.stamp ≡ true) (drop result reads.now) }
-{
-    let mut at = reads_up_to(reads, stamp);
-    while at < reads.len() {
-        if stamp.is_before(&reads[at].stamp) {
-            return at;
-        }
-        at += 1;
-    }
-    at
-}
-
-// How many of the reads, in order, don't see a value that a live put sets from that place on.
-#[tactic(auto, using(crate::proofs::Receipts::seen_set, crate::proofs::Receipts::none_later))]
-fn not_set(reads: &[ReadRow], puts: &[Held], from: usize) -> usize
-    requires { IsInOrder read_key reads.now }
-    ensures within { result ≤ length reads.now }
-    ensures later { AllByRecursion (SeesSet puts.now from) (drop result reads.now) }
-{
-    let set = next_set(puts, from);
-    if set >= puts.len() {
-        return reads.len();
-    }
-    first_after(reads, puts[set].row.stamp)
-}
-
-// So many of the reads from a place on.
-fn before_set(reads: &[ReadRow], after: usize, puts: &[Held], from: usize) -> usize
-    requires order { IsInOrder read_key reads.now }
-    requires after { after ≤ length reads.now }
-    ensures within { after + result ≤ length reads.now }
-    ensures later { AllByRecursion (SeesSet puts.now from) (drop result (drop after reads.now)) }
-{
-    not_set(&reads[after..], puts, from)
-}
-
-// So many of the reads from a place on, by the puts behind the one of that place.
-fn before_next_set(reads: &[ReadRow], after: usize, puts: &[Held], at: usize) -> usize
-    requires order { IsInOrder read_key reads.now }
-    requires after { after ≤ length reads.now }
-    ensures within { after + result ≤ length reads.now }
-    ensures later { AllByRecursion (SeesSet puts.now (suc at)) (drop result (drop after reads.now)) }
-{
-    if at >= puts.len() {
-        return reads.len() - after;
-    }
-    before_set(reads, after, puts, at + 1)
-}
-
-// Refreshes so many reads from that place on.
-fn refresh_from(
-    var: u32,
-    puts: &[Held],
-    base: Value,
-    reads: &mut Vec<ReadRow>,
-    after: usize,
-    many: usize,
-    gives: &mut Vec<GiveRow>,
-)
-    requires puts { IsInOrder held_key puts.now }
-    requires reads { IsInOrder read_key reads.old.items }
-    requires turns { HaveTurns reads.old.items }
-    requires within { after + many ≤ length reads.old.items }
-    requires room { vec_len gives.old + many ≤ vec_capacity gives.old }
-    ensures reads { reads.new.items ≡ take after reads.old.items ++
-        (map (fresh_read (seen_by puts.now base)) (take many (drop after reads.old.items)) ++
-        drop many (drop after reads.old.items)) }
-    ensures gives { gives.new.items ≡
-        gives.old.items ++ changed_of var (seen_by puts.now base) (take many (drop after reads.old.items)) }
-{
-    refresh(var, puts, base, &mut reads[after..], many, gives);
-}
-
-// Drops the puts below the line.
-fn keep_puts(puts: &mut Vec<Held>, line: Line)
-    ensures { puts.new.items ≡ filter (held_stays line) puts.old.items }
-{
-    puts.retain(|h| !line.is_past(h.row.stamp));
-}
-
-// Drops the cuts below the line that name none of the puts.
-fn keep_cuts(cuts: &mut Vec<CutRow>, puts: &[Held], line: Line)
-    ensures { cuts.new.items ≡ filter (cut_is_kept line puts.now) cuts.old.items }
-{
-    cuts.retain(|c| stays(c, puts, line));
-}
-
-// Whether the cut isn't below the line, or names one of the puts.
-fn stays(cut: &CutRow, puts: &[Held], line: Line) -> bool
-    ensures { result ≡ cut_is_kept line puts.now cut.now }
-{
-    !line.is_past(cut.stamp) || has(puts, cut.num)
-}
-
 // Drops the reads below the line.
-fn keep_reads(reads: &mut Vec<ReadRow>, line: Line)
-    ensures { reads.new.items ≡ filter (read_stays line) reads.old.items }
+fn trim_reads(alloc: Global, reads: &mut List<ReadRow>, line: Line)
+    ensures { reads.new ≡ filter (read_stays line) reads.old }
 {
-    reads.retain(|q| !line.is_past(q.stamp));
+    let mut left = mem::replace(reads, List::new(alloc)).into_vec();
+    left.retain(|q| !line.is_past(q.stamp));
+    *reads = List::from_vec(left);
+}
+
+// Drops so many of the first periods; the next becomes the first, with the reads that aren't below the line.
+fn drop_first(alloc: Global, periods: &mut Vec<Held>, first: usize, line: Line)
+    requires { first < length periods.old.items }
+    ensures { (d : Held) → periods.new.items ≡
+        trimmed_period line (slice_index_or periods.old.items first d) ∷ drop (suc first) periods.old.items }
+{
+    periods.drain(..first);
+    periods[0].put = None;
+    trim_reads(alloc, &mut periods[0].reads, line);
+}
+
+// Has the last period that begins below the line be the first.
+fn trim_periods(alloc: Global, periods: &mut Vec<Held>, line: Line)
+    requires begins { BeginAtBase periods.old.items }
+    requires order { AreOrdered periods.old.items }
+    ensures { Trim line periods.old.items periods.new.items }
+{
+    let at = reach(periods.as_slice(), line);
+    drop_first(alloc, periods, at - 1, line);
+}
+
+// The put where it isn't below the line.
+fn kept_put(put: &Option<PutRow>, line: Line) -> Option<PutRow>
+    ensures { result ≡ put_kept line put.now }
+{
+    match put {
+        Some(row) if !line.is_past(row.stamp) => Some(*row),
+        _ => None,
+    }
+}
+
+// Drops the withdrawn puts below the line, and the cuts below it that name none of the others.
+fn trim_withdrawals(withdrawals: &mut Vec<Withdrawal>, line: Line)
+    ensures { withdrawals.new.items ≡ filter (withdrawal_stays line) (map (trimmed_withdrawal line) withdrawals.old.items) }
+{
+    trim_puts(withdrawals.as_mut_slice(), line);
+    withdrawals.retain(|w| !line.is_past(w.cut.stamp) || w.put.is_some());
+}
+
+// Drops the withdrawn puts below the line.
+fn trim_puts(withdrawals: &mut [Withdrawal], line: Line)
+    ensures { withdrawals.new ≡ map (trimmed_withdrawal line) withdrawals.old }
+{
+    for w in withdrawals.iter_mut() {
+        w.put = kept_put(&w.put, line);
+    }
 }

@@ -1,7 +1,9 @@
 ghost use Rattle.std.specs.Prelude.{IsTrue};
+ghost use Rattle.pm_periods.specs.Laid.{reads_of};
 ghost use Rattle.pm_periods.specs.Records.{HaveTurns};
 
 use crate::VarRecord;
+use crate::held::Held;
 use pm_base::{
     Change, GiveRow, Interval, Line, List, Num, Parts, Period, PutRow, ReadRow, Stamp, Value,
     Window,
@@ -81,7 +83,18 @@ fn have_turns(reads: &[ReadRow]) -> bool
 fn has_turns(one: &VarRecord) -> bool
     ensures { IsTrue result → HaveTurns one.now.parts.reads }
 {
-    have_turns(one.reads.as_slice())
+    have_all_turns(one.periods.as_slice())
+}
+
+fn have_all_turns(periods: &[Held]) -> bool
+    ensures { IsTrue result → HaveTurns (reads_of periods.now) }
+{
+    for h in periods {
+        if !have_turns(h.reads.as_slice()) {
+            return false;
+        }
+    }
+    true
 }
 
 fn tell(alloc: Global, record: &mut VarRecord, told: &Told) -> Result<List<GiveRow>, Fail> {
@@ -243,6 +256,37 @@ fn greater_agent_is_later(rt: HostRuntime) -> Result<(), Fail> {
         ),
     ];
     follows(&rt, rt.alloc(), &rows)
+}
+
+#[test]
+fn greater_count_is_later(rt: HostRuntime) -> Result<(), Fail> {
+    let whole = Window::whole();
+    let rows = [
+        (Told::Put((0, 9), (3, 0), set(5)), (None, None)),
+        (Told::Put((1, 7), (3, 0), set(2)), (None, None)),
+        (
+            Told::Watch((2, 1), (4, 2), whole),
+            (Some(hit(2, 1, 1, 5)), None),
+        ),
+        (Told::Put((1, 8), (3, 0), set(4)), (None, None)),
+        (Told::Cut((0, 9), (3, 0)), (Some(hit(2, 1, 2, 4)), None)),
+    ];
+    follows(&rt, rt.alloc(), &rows)
+}
+
+#[test]
+fn lists_of_one_stamp_are_by_agent(rt: HostRuntime) -> Result<(), Fail> {
+    let alloc = rt.alloc();
+    let mut record = VarRecord::new(alloc, 4, pair(0, 0))?;
+    tell(alloc, &mut record, &Told::Put((1, 7), (3, 0), set(2)))?;
+    tell(alloc, &mut record, &Told::Put((0, 9), (3, 0), set(5)))?;
+    let parts = record.to_parts(alloc)?;
+    let puts = [put((0, 9), (3, 0), set(5)), put((1, 7), (3, 0), set(2))];
+    assert_eq!(rt; parts.puts.as_slice(), puts.as_slice());
+    let again = VarRecord::from_parts(alloc, 4, &parts)?;
+    check_same(&rt, alloc, &again, &record)?;
+    assert_eq!(rt; again.value_at(at((4, 2))), pair(5, 0));
+    Ok(())
 }
 
 #[test]
@@ -416,6 +460,27 @@ fn thousand_periods(rt: HostRuntime) -> Result<(), Fail> {
     assert_eq!(rt; gives.len(), 1);
     for give in gives.as_slice() {
         assert_eq!(rt; given(give), hit(1, 500, 2, 499));
+    }
+    let held = record.held();
+    assert_eq!(rt; held.len(), 1000);
+    for (k, h) in held.iter().enumerate() {
+        let k = k as u64;
+        let put = h.put.map(|p| p.num.seq);
+        let reads = h.reads.as_slice();
+        if k == 0 {
+            assert_eq!(rt; put, None);
+            assert_eq!(rt; reads.len(), 0);
+        } else if k == 500 {
+            assert_eq!(rt; put, Some(499));
+            assert_eq!(rt; reads.len(), 2);
+            assert_eq!(rt; h.reads.get(0).map(|q| q.num.seq), Some(499));
+            assert_eq!(rt; h.reads.get(1).map(|q| q.num.seq), Some(500));
+        } else {
+            let n = if k < 500 { k - 1 } else { k };
+            assert_eq!(rt; put, Some(n));
+            assert_eq!(rt; reads.len(), 1);
+            assert_eq!(rt; h.reads.get(0).map(|q| q.num.seq), Some(n));
+        }
     }
     Ok(())
 }

@@ -1,35 +1,56 @@
-use Rattle.std.proofs.Common.{ap, sym, ◌∙◌, subst}
+use Rattle.std.proofs.Common.{◌≡◌, refl, ap, sym, ◌∙◌, subst}
+use Rattle.pm_base.specs.declared.rows.ReadRow.{ReadRow}
 use Rattle.pm_base.specs.declared.stamp.Line.TheVariants as line
-use Rattle.pm_periods.specs.Records.{Record, after_watch, first_read, gives_of_watch, with_parts}
-use Rattle.pm_periods.specs.Rows.{IsInOrder, has_num, read_key}
-use Rattle.pm_periods.specs.Walks.{held_key, held_value}
-use Rattle.pm_periods.proofs.Receipts.{value_by, watch_gives, watch_parts}
-use Rattle.pm_periods.proofs.Walks.{in_order-held}
+use Rattle.pm_periods.specs.Inner.{parts_of}
+use Rattle.pm_periods.specs.Laid.{base_of, puts_of, reads_of, value_under}
+use Rattle.pm_periods.specs.Records.{IsSettled, Record, after_watch, first_read, fresh_read, gives_of_watch, hit_in, record_value, with_parts}
+use Rattle.pm_periods.specs.Rows.{add_row, has_num, read_key}
+use Rattle.pm_periods.proofs.Entering.{entered_whole, fresh_hit, watch_gives, watch_parts}
+use Rattle.pm_periods.proofs.Receipts.{after_watch-settled}
+use Rattle.pm_periods.proofs.Wholes.{sound_sees}
 use Rattle.pm_periods.proofs.record.VarRecord.watch.Goals as goal
-
-pub seen_at-value-requires : goal.seen_at-value-requires
-seen_at-value-requires c = subst (IsInOrder held_key) (sym c.as_slice-2.ensures.value) (in_order-held c.self.inside.puts.items c.self.invariant.settled.puts)
 
 pub invariant_of-self-2 : goal.invariant_of-self-2
 invariant_of-self-2 c =
     let i = c.self.inside in
-    let new = ap (has_num read_key c.args.num) (sym c.as_slice.ensures.value) ∙ (sym c.has.ensures ∙ c.if-has.false) in
-    let seen = c.seen_at-value.ensures ∙ (ap (λ z. held_value (line.At c.args.stamp) z i.base) c.as_slice-2.ensures.value ∙ value_by i.base i.puts.items i.cuts.items i.reads.items c.self.invariant.marks (line.At c.args.stamp)) in
-    let done = watch_parts i c.self.invariant c.args.num c.args.stamp c.args.window new _ seen _ c.first_row-row.ensures _ c.in_ok-add.ensures.ok in
-    record { settled = done.1; marks = c.self.invariant.marks }
+    let hs = i.periods.items in
+    let ws = i.withdrawals.items in
+    let q = first_read c.args.num c.args.stamp c.args.window in
+    let new = ap (λ z. has_num read_key c.args.num (reads_of z)) (sym c.as_slice.ensures.value) ∙ (sym c.has_read.ensures ∙ c.if-has_read.false) in
+    let value : c.value_at_line-value.result ≡ record_value (parts_of i) c.args.stamp =
+    c.value_at_line-value.ensures ∙ (ap (λ z. value_under (line.At c.args.stamp) (puts_of z) (base_of z)) c.as_slice-2.ensures.value ∙ sym (sound_sees hs ws c.self.invariant.sound (line.At c.args.stamp))) in
+    let fresh : c.refreshed-row.result ≡ fresh_read (λ _. c.value_at_line-value.result) q = c.refreshed-row.ensures in
+    let hit : c.refreshed-row.result.hit ≡ hit_in (record_value (parts_of i) c.refreshed-row.result.stamp) c.refreshed-row.result.window =
+    subst (λ (z : ReadRow). z.hit ≡ hit_in (record_value (parts_of i) z.stamp) z.window) (sym fresh) (fresh_hit (record_value (parts_of i)) c.value_at_line-value.result q value) in
+    let whole = entered_whole hs ws c.self.invariant.sound c.refreshed-row.result hit c.add_read.new.periods.items c.in_ok-add_read.ensures.ok in
+    let parts = whole.0 ∙ watch_parts i.var (parts_of i) c.self.invariant.settled c.args.num c.args.stamp c.args.window new c.value_at_line-value.result value c.refreshed-row.result fresh (add_row read_key c.refreshed-row.result (reads_of hs)) refl in
+    record { settled = subst IsSettled (sym parts) (after_watch-settled q (parts_of i) c.self.invariant.settled); sound = whole.1 }
 
 pub returns-clause-ok : goal.returns-clause-ok
 returns-clause-ok c =
     let i = c.self.inside in
-    let new = ap (has_num read_key c.args.num) (sym c.as_slice.ensures.value) ∙ (sym c.has.ensures ∙ c.if-has.false) in
-    let seen = c.seen_at-value.ensures ∙ (ap (λ z. held_value (line.At c.args.stamp) z i.base) c.as_slice-2.ensures.value ∙ value_by i.base i.puts.items i.cuts.items i.reads.items c.self.invariant.marks (line.At c.args.stamp)) in
-    let done = watch_parts i c.self.invariant c.args.num c.args.stamp c.args.window new _ seen _ c.first_row-row.ensures _ c.in_ok-add.ensures.ok in
-    ap (λ z. record { var = i.var; parts = z }) done.0 ∙ ap (λ (z : Record). with_parts z (after_watch (first_read c.args.num c.args.stamp c.args.window) z.parts)) c.self.view_is
+    let hs = i.periods.items in
+    let ws = i.withdrawals.items in
+    let q = first_read c.args.num c.args.stamp c.args.window in
+    let new = ap (λ z. has_num read_key c.args.num (reads_of z)) (sym c.as_slice.ensures.value) ∙ (sym c.has_read.ensures ∙ c.if-has_read.false) in
+    let value : c.value_at_line-value.result ≡ record_value (parts_of i) c.args.stamp =
+    c.value_at_line-value.ensures ∙ (ap (λ z. value_under (line.At c.args.stamp) (puts_of z) (base_of z)) c.as_slice-2.ensures.value ∙ sym (sound_sees hs ws c.self.invariant.sound (line.At c.args.stamp))) in
+    let fresh : c.refreshed-row.result ≡ fresh_read (λ _. c.value_at_line-value.result) q = c.refreshed-row.ensures in
+    let hit : c.refreshed-row.result.hit ≡ hit_in (record_value (parts_of i) c.refreshed-row.result.stamp) c.refreshed-row.result.window =
+    subst (λ (z : ReadRow). z.hit ≡ hit_in (record_value (parts_of i) z.stamp) z.window) (sym fresh) (fresh_hit (record_value (parts_of i)) c.value_at_line-value.result q value) in
+    let whole = entered_whole hs ws c.self.invariant.sound c.refreshed-row.result hit c.add_read.new.periods.items c.in_ok-add_read.ensures.ok in
+    let parts = whole.0 ∙ watch_parts i.var (parts_of i) c.self.invariant.settled c.args.num c.args.stamp c.args.window new c.value_at_line-value.result value c.refreshed-row.result fresh (add_row read_key c.refreshed-row.result (reads_of hs)) refl in
+    ap (λ z. record { var = i.var; parts = z }) parts ∙ ap (λ (z : Record). with_parts z (after_watch q z.parts)) c.self.view_is
 
 pub returns-clause-gives : goal.returns-clause-gives
 returns-clause-gives c =
     let i = c.self.inside in
-    let new = ap (has_num read_key c.args.num) (sym c.as_slice.ensures.value) ∙ (sym c.has.ensures ∙ c.if-has.false) in
-    let seen = c.seen_at-value.ensures ∙ (ap (λ z. held_value (line.At c.args.stamp) z i.base) c.as_slice-2.ensures.value ∙ value_by i.base i.puts.items i.cuts.items i.reads.items c.self.invariant.marks (line.At c.args.stamp)) in
-    watch_gives i c.self.invariant c.args.num c.args.stamp c.args.window new _ seen _ c.first_row-row.ensures _ c.first_give.ensures
-    ∙ ap (λ (z : Record). gives_of_watch z.var (first_read c.args.num c.args.stamp c.args.window) z.parts) c.self.view_is
+    let hs = i.periods.items in
+    let ws = i.withdrawals.items in
+    let q = first_read c.args.num c.args.stamp c.args.window in
+    let new = ap (λ z. has_num read_key c.args.num (reads_of z)) (sym c.as_slice.ensures.value) ∙ (sym c.has_read.ensures ∙ c.if-has_read.false) in
+    let value : c.value_at_line-value.result ≡ record_value (parts_of i) c.args.stamp =
+    c.value_at_line-value.ensures ∙ (ap (λ z. value_under (line.At c.args.stamp) (puts_of z) (base_of z)) c.as_slice-2.ensures.value ∙ sym (sound_sees hs ws c.self.invariant.sound (line.At c.args.stamp))) in
+    let fresh : c.refreshed-row.result ≡ fresh_read (λ _. c.value_at_line-value.result) q = c.refreshed-row.ensures in
+    watch_gives i.var (parts_of i) c.self.invariant.settled c.args.num c.args.stamp c.args.window new c.value_at_line-value.result value c.refreshed-row.result fresh c.first_give.result c.first_give.ensures
+    ∙ ap (λ (z : Record). gives_of_watch z.var q z.parts) c.self.view_is
