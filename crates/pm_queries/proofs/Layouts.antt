@@ -1,17 +1,15 @@
 -- The layout of the queries after each call.
-use Rattle.std.proofs.Common.{◌≡◌, ℕ, zero, suc, ◌+◌, ◌<◌, inl, inr, Bool, true, false, not, cond, ◌||◌, ◌&&◌, ◌==◌, List, [], ◌∷◌, ◌++◌, length, get_or, set, take, drop, map, filter, Option, Some, None, refl, arith, ap, ap₂, sym, ◌∙◌, subst}
+use Rattle.std.proofs.Common.{◌≡◌, ℕ, zero, suc, ◌+◌, ◌<◌, Bool, true, false, not, cond, ◌||◌, ◌==◌, List, [], ◌∷◌, ◌++◌, length, get_or, set, take, map, filter, Option, Some, None, refl, arith, ap, ap₂, sym, ◌∙◌, subst}
 use Rattle.std.specs.List.{AllByRecursion}
-use Rattle.std.proofs.lemmas.Bool.{cases_Bool, false≢true, or_parts}
 use Rattle.std.proofs.lemmas.Bool.Decides.{nat_tests}
 use Rattle.std.proofs.lemmas.List.{take_more}
-use Rattle.std.proofs.lemmas.List.Elements.{filter-append}
 use Rattle.std.specs.BTreeMap.{is_at}
 use Rattle.pm_base.specs.Stamps.{is_below, num_eq}
 use Rattle.pm_base.specs.declared.stamp.Line.{Line}
 use Rattle.pm_base.specs.declared.stamp.Num.{Num}
 use Rattle.pm_periods.specs.Rows.{AreDistinct, IsInOrder}
 use Rattle.pm_periods.proofs.Ordered.{each_filter, filter_distinct}
-use Rattle.pm_queries.specs.Queries.{add_reg, class_queries, finish_in, has_reg, not_below, registered_key}
+use Rattle.pm_queries.specs.Queries.{add_reg, finish_in, has_reg, not_below, registered_key}
 use Rattle.pm_queries.specs.Laid.{AllRise, HasRoom, IsLaid, IsRising, OwnFrom, SameRows, add_regs, drops, merged, num_cmp, spot, spot_of, unwaited_in}
 use Rattle.pm_queries.specs.declared.registered.Registered.{Registered}
 use Rattle.pm_queries.specs.declared.registered.Spot.{Spot}
@@ -212,28 +210,21 @@ has_reg-append n (x ∷ xs) ys =
     or_assoc true b c = refl
     or_assoc false b c = refl
 
--- one more query is looked at
-pub forgets-more : (n : Num) (l : Line) (xs : List Registered) (i : ℕ) (x : Registered) (o o' start : Option Spot)
+-- one more query is forgotten
+pub forgets-more : (n : Num) (xs : List Registered) (i : ℕ) (x : Registered) (o o' start : Option Spot)
     → i < length xs → x ≡ get_or xs i x
-    → o ≡ cond (has_below n l (take i xs)) None start → o' ≡ cond (is_below x.stamp l && num_eq n x.num) None o
-    → o' ≡ cond (has_below n l (take (i + 1) xs)) None start
-forgets-more n l xs i x o o' start low at so_far is =
-    let below : Registered → Bool = λ r. is_below r.stamp l in
-    let one : has_below n l (x ∷ []) ≡ (is_below x.stamp l && num_eq n x.num) = by (is_below x.stamp l) in
-    let more : has_below n l (take (i + 1) xs) ≡ (has_below n l (take i xs) || (is_below x.stamp l && num_eq n x.num)) =
-    ap (has_below n l) (take_more xs i x low ∙ ap (λ z. take i xs ++ z ∷ []) (sym at))
-    ∙ (ap (has_reg n) (filter-append below (take i xs) (x ∷ [])) ∙ (has_reg-append
-    n (filter below (take i xs)) (filter below (x ∷ [])) ∙ ap (λ b. has_below n l (take i xs) || b) one)) in
-    is ∙ (ap (cond (is_below x.stamp l && num_eq n x.num) None) so_far ∙ (both
-    (is_below x.stamp l && num_eq n x.num) (has_below n l (take i xs)) ∙ ap (λ b. cond b None start) (sym more)))
+    → o ≡ cond (has_reg n (take i xs)) None start → o' ≡ cond (num_eq n x.num) None o
+    → o' ≡ cond (has_reg n (take (i + 1) xs)) None start
+forgets-more n xs i x o o' start low at so_far is =
+    let more : has_reg n (take (i + 1) xs) ≡ (has_reg n (take i xs) || num_eq n x.num) =
+    ap (has_reg n) (take_more xs i x low ∙ ap (λ z. take i xs ++ z ∷ []) (sym at))
+    ∙ (has_reg-append n (take i xs) (x ∷ []) ∙ ap (λ b. has_reg n (take i xs) || b) (or_false (num_eq n x.num))) in
+    is ∙ (ap (cond (num_eq n x.num) None) so_far
+    ∙ (both (num_eq n x.num) (has_reg n (take i xs)) ∙ ap (λ b. cond b None start) (sym more)))
   where
-    by : (b : Bool) → has_reg n (cond b (x ∷ []) []) ≡ (b && num_eq n x.num)
-    by true = or_false (num_eq n x.num)
-      where
-        or_false : (b : Bool) → (b || false) ≡ b
-        or_false true = refl
-        or_false false = refl
-    by false = refl
+    or_false : (b : Bool) → (b || false) ≡ b
+    or_false true = refl
+    or_false false = refl
 
     both : (a b : Bool) → cond a None (cond b None start) ≡ cond (b || a) None start
     both true true = refl

@@ -1,16 +1,18 @@
 -- Queries of one class, in order: where one stands, and what a new one leaves.
-use Rattle.std.proofs.Common.{◌≡◌, ℕ, zero, suc, ◌<◌, ◌≤◌, inl, inr, Bool, true, false, not, ◌||◌, List, [], ◌∷◌, ◌++◌, length, get_or, set, take, drop, map, filter, cond, refl, arith, ap, ap₂, sym, ◌∙◌, subst}
+use Rattle.std.proofs.Common.{◌≡◌, ℕ, zero, suc, ◌<◌, ◌≤◌, inl, inr, Bool, true, false, not, ◌||◌, List, [], ◌∷◌, ◌++◌, length, get_or, take, drop, filter, cond, refl, arith, ap, sym, ◌∙◌, subst}
 use Rattle.std.specs.List.{AllByRecursion, AllWithin}
 use Rattle.std.proofs.lemmas.Bool.{cases_Bool, cond_both, false≢true, or_parts}
 use Rattle.std.proofs.lemmas.Bool.Decides.{nat_tests}
-use Rattle.pm_base.specs.Stamps.{num_eq, num_lt, stamp_lt}
+use Rattle.pm_base.specs.Stamps.{is_below, num_eq}
+use Rattle.pm_base.specs.declared.stamp.Line.{Line}
+use Rattle.pm_base.specs.declared.stamp.Line.TheVariants as line
 use Rattle.pm_base.specs.declared.stamp.Num.{Num}
 use Rattle.pm_periods.specs.Rows.{AreDistinct, IsInOrder, add_row, has_num, key_lt}
 use Rattle.pm_periods.specs.declared.rows.RowKey.{RowKey}
-use Rattle.pm_periods.proofs.Keys.{key_lt-asym, key_lt-up_to, num_eq-flip}
+use Rattle.pm_periods.proofs.Keys.{key_lt-asym, key_lt-up_to}
 use Rattle.pm_periods.proofs.Ordered.{add_row-distinct, add_row-in_order, each_filter, up_to_middle}
-use Rattle.pm_queries.specs.Queries.{add_reg, has_reg, registered_key}
-use Rattle.pm_queries.specs.Laid.{IsRising, IsSame, SameRows, before, up_to}
+use Rattle.pm_queries.specs.Queries.{add_reg, has_reg, not_below, registered_key}
+use Rattle.pm_queries.specs.Laid.{IsRising, before, up_to}
 use Rattle.pm_queries.specs.declared.registered.Registered.{Registered}
 
 abbrev pub lt : Registered → Registered → Bool
@@ -151,3 +153,48 @@ before-point k (x ∷ xs) (suc i) le first last =
     let h : key_lt (registered_key x) k ≡ true = first 0 x (omega arith) (omega arith) in
     rw h (ap suc (before-point k xs i (omega (arith, le)) (λ j d lo hi. first (suc j) d
     (omega (arith, lo)) (omega (arith, hi))) (λ j d lo hi. last (suc j) d (omega (arith, lo)) (omega (arith, hi)))))
+
+-- ---- those below a line stand first
+
+below_too : (a b : RowKey) (l : Line) → key_lt b a ≡ false → is_below b.stamp l ≡ true → is_below a.stamp l ≡ true
+below_too a b (line.At t) e f = grind (arith, nat_tests, e, f)
+below_too a b line.End e f = refl
+
+pub below-parted : (l : Line) (xs : List Registered)
+    → IsInOrder registered_key xs → (i j : ℕ) (d : Registered) → i ≤ j → j < length xs
+    → is_below (get_or xs j d).stamp l ≡ true → is_below (get_or xs i d).stamp l ≡ true
+below-parted l xs o i j d le low h =
+    let a = registered_key (get_or xs i d) in
+    let b = registered_key (get_or xs j d) in
+    below_too a b l (up_to_middle registered_key b xs i j d d o low (key_lt-self b) le) h
+
+-- so they are the first ones
+pub below-first : (l : Line) (xs : List Registered) (i : ℕ)
+    → i ≤ length xs → AllWithin (λ (x : Registered). is_below x.stamp l ≡ true) xs 0 i
+    → AllWithin (λ (x : Registered). is_below x.stamp l ≡ false) xs i (length xs)
+    → take i xs ≡ filter (λ (x : Registered). is_below x.stamp l) xs
+below-first l [] zero le first last = refl
+below-first l [] (suc i) le first last = absurd (omega (arith, le))
+below-first l (x ∷ xs) zero le first last =
+    let h : is_below x.stamp l ≡ false = last 0 x (omega arith) (omega arith) in
+    rw h (below-first l xs zero (omega arith) (λ j d lo hi. absurd (omega (arith, hi)))
+    (λ j d lo hi. last (suc j) d (omega arith) (omega (arith, hi))))
+below-first l (x ∷ xs) (suc i) le first last =
+    let h : is_below x.stamp l ≡ true = first 0 x (omega arith) (omega arith) in
+    rw h (ap (λ z. x ∷ z) (below-first l xs i (omega (arith, le)) (λ j d lo hi. first (suc j) d
+    (omega (arith, lo)) (omega (arith, hi))) (λ j d lo hi. last (suc j) d (omega (arith, lo)) (omega (arith, hi)))))
+
+-- and the others are those behind them
+pub below-others : (l : Line) (xs : List Registered) (i : ℕ)
+    → i ≤ length xs → AllWithin (λ (x : Registered). is_below x.stamp l ≡ true) xs 0 i
+    → AllWithin (λ (x : Registered). is_below x.stamp l ≡ false) xs i (length xs) → drop i xs ≡ not_below l xs
+below-others l [] zero le first last = refl
+below-others l [] (suc i) le first last = absurd (omega (arith, le))
+below-others l (x ∷ xs) zero le first last =
+    let h : is_below x.stamp l ≡ false = last 0 x (omega arith) (omega arith) in
+    rw h (ap (λ z. x ∷ z) (below-others l xs zero (omega arith) (λ j d lo hi. absurd (omega (arith, hi)))
+    (λ j d lo hi. last (suc j) d (omega arith) (omega (arith, hi)))))
+below-others l (x ∷ xs) (suc i) le first last =
+    let h : is_below x.stamp l ≡ true = first 0 x (omega arith) (omega arith) in
+    rw h (below-others l xs i (omega (arith, le)) (λ j d lo hi. first (suc j) d
+    (omega (arith, lo)) (omega (arith, hi))) (λ j d lo hi. last (suc j) d (omega (arith, lo)) (omega (arith, hi))))

@@ -1,4 +1,4 @@
-ghost use Rattle.std.specs.Prelude.{◌≡◌, ◌≤◌, ◌++◌, ◌&&◌, [], cond, length, map, filter, Some, None, OnOk, OnErr};
+ghost use Rattle.std.specs.Prelude.{◌≡◌, ◌≤◌, ◌++◌, [], cond, length, map, filter, take, drop, Some, None, OnOk, OnErr};
 ghost use Rattle.std.specs.BTreeMap.{get};
 ghost use Rattle.std.specs.Option.{option_to_list};
 ghost use Rattle.pm_base.specs.Stamps.{is_below, num_eq};
@@ -87,14 +87,17 @@ impl ClassRows {
         catch_each(&mut self.rows, port, class, table, place, out)
     }
 
-    // Drops those below the line, here and where their numbers stand.
+    // Drops those below the line, here and where their numbers stand. They stand first: no other is looked at.
     pub fn drop_below(&mut self, line: &Line, spots: &mut BTreeMap<Num, Spot>)
+        requires { IsInOrder registered_key self.old }
         ensures rows { self.new ≡ not_below line.now self.old }
         ensures spots { (n : TheNum) → get num_cmp spots.new n ≡
             cond (has_reg n (filter (λ r. is_below r.stamp line.now) self.old)) None (get num_cmp spots.old n) }
     {
-        forget_below(self.rows.as_slice(), line, spots);
-        self.rows.retain(|r| !line.is_past(r.stamp));
+        let rows = self.rows.as_slice();
+        let count = below(rows, line);
+        forget_each(&rows[..count], spots);
+        drop_first(&mut self.rows, count);
     }
 }
 
@@ -132,22 +135,29 @@ fn catch_each(
     Ok(())
 }
 
-// Where the numbers of the queries below the line stand is forgotten.
-fn forget_below(rows: &[Registered], line: &Line, spots: &mut BTreeMap<Num, Spot>)
-    ensures { (n : TheNum) → get num_cmp spots.new n ≡
-        cond (has_reg n (filter (λ r. is_below r.stamp line.now) rows.now)) None (get num_cmp spots.old n) }
+// Where the numbers of these queries stand is forgotten.
+fn forget_each(rows: &[Registered], spots: &mut BTreeMap<Num, Spot>)
+    ensures { (n : TheNum) → get num_cmp spots.new n ≡ cond (has_reg n rows.now) None (get num_cmp spots.old n) }
 {
     for row in rows {
-        forget(row, line, spots);
+        forget(row, spots);
     }
 }
 
-fn forget(row: &Registered, line: &Line, spots: &mut BTreeMap<Num, Spot>)
+fn forget(row: &Registered, spots: &mut BTreeMap<Num, Spot>)
     ensures { (n : TheNum) → get num_cmp spots.new n ≡
-        cond (is_below row.now.stamp line.now && num_eq n row.now.num) None (get num_cmp spots.old n) }
+        cond (num_eq n row.now.num) None (get num_cmp spots.old n) }
 {
-    if line.is_past(row.stamp) {
-        spots.remove(&row.num);
+    spots.remove(&row.num);
+}
+
+// The first so many queries are dropped, and the others move up, where there is one to drop.
+fn drop_first(rows: &mut Vec<Registered>, count: usize)
+    requires { count ≤ length rows.old.items }
+    ensures { rows.new.items ≡ drop count rows.old.items }
+{
+    if count > 0 {
+        drop(rows.drain(..count));
     }
 }
 
@@ -165,6 +175,16 @@ fn up_to(rows: &[Registered], row: &Registered) -> usize
     ensures value { result ≡ up_to (registered_key row.now) rows.now }
 {
     rows.partition_point(|r| !is_before(row, r))
+}
+
+// How many queries are below the line.
+fn below(rows: &[Registered], line: &Line) -> usize
+    requires { IsInOrder registered_key rows.now }
+    ensures within { result ≤ length rows.now }
+    ensures first { take result rows.now ≡ filter (λ r. is_below r.stamp line.now) rows.now }
+    ensures others { drop result rows.now ≡ not_below line.now rows.now }
+{
+    rows.partition_point(|r| line.is_past(r.stamp))
 }
 
 // How many queries stand before that stamp and number.

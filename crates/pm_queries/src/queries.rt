@@ -2,7 +2,7 @@ ghost use Rattle.std.specs.Prelude.{◌≡◌, ◌<◌, ◌-◌, ◌^◌, ◌++�
 ghost use Rattle.std.specs.BTreeMap.{get};
 ghost use Rattle.std.specs.Option.{option_to_list};
 ghost use Rattle.pm_base.specs.declared.stamp.Num.{Num as TheNum};
-ghost use Rattle.pm_queries.specs.Laid.{HasRoom, drops, merged, num_cmp};
+ghost use Rattle.pm_queries.specs.Laid.{AllRise, HasRoom, drops, merged, num_cmp};
 ghost use Rattle.pm_queries.specs.Queries.{add_reg, asks_at, catches_by, caught_by, class_queries, finish_in, has_reg};
 ghost use Rattle.pm_queries.specs.Queries.{not_below};
 ghost use Rattle.pm_tables.specs.Tables.{known_in};
@@ -135,7 +135,8 @@ impl Queries {
         }
     }
 
-    /// Drops the queries below the line. It takes no memory.
+    /// Drops the queries below the line. Of each class it looks at those that go, whose end is found by halving. It
+    /// takes no memory.
     pub fn trim(&mut self, line: Line)
         ensures { self.new ≡ not_below line self.old }
     {
@@ -166,6 +167,7 @@ fn make_room(alloc: Global, classes: &mut Vec<ClassRows>, class: usize) -> Resul
 
 /// Drops the queries below the line from each class, and forgets where their numbers stood.
 fn drop_below(classes: &mut Vec<ClassRows>, spots: &mut BTreeMap<Num, Spot>, line: &Line)
+    requires { AllRise classes.old.items }
     ensures classes { classes.new.items ≡ map (not_below line.now) classes.old.items }
     ensures spots { (n : TheNum) → get num_cmp spots.new n ≡
         cond (drops n line.now classes.old.items) None (get num_cmp spots.old n) }

@@ -8,6 +8,7 @@ use Rattle.pm_base.specs.Stamps.{stamp_lt, is_below, is_after, holds}
 use Rattle.pm_base.specs.Windows.{is_inverted}
 use Rattle.pm_base.specs.declared.stamp.Interval.{Interval}
 use Rattle.pm_base.specs.declared.stamp.Line.{Line}
+use Rattle.pm_base.specs.declared.stamp.Line.TheVariants as line
 use Rattle.pm_base.specs.declared.stamp.Stamp.{Stamp}
 use Rattle.pm_base.specs.declared.value.Window.{Window}
 use Rattle.pm_ranges.specs.declared.piece.Piece.{Piece}
@@ -48,6 +49,38 @@ point-before (p ∷ ps) s zero le first last = (let h : stamp_lt p.until s ≡ f
 point-before (p ∷ ps) s (suc i) le first last =
     let h : stamp_lt p.until s ≡ true = first 0 p (omega arith) (omega arith) in
     rw h (ap suc (point-before ps s i (omega (arith, le)) (λ k d lo hi. first (suc k) d (omega (arith, lo)) (omega (arith, hi))) (λ k d lo hi. last (suc k) d (omega (arith, lo)) (omega (arith, hi)))))
+
+-- ---- the pieces that end below a line
+
+below-trans : (a b : Stamp) (l : Line) → stamp_lt a b ≡ true → is_below b l ≡ true → is_below a l ≡ true
+below-trans a b (line.At t) h k = lt-trans a b t h k
+below-trans a b line.End h k = refl
+
+pub below-parted : (ps : List Piece) (l : Line) → Rising ps → (i j : ℕ) (d : Piece) → i ≤ j → j < length ps
+    → is_below (get_or ps j d).until l ≡ true → is_below (get_or ps i d).until l ≡ true
+below-parted [] l r i j d le low h = absurd (omega (arith, low))
+below-parted (p ∷ ps) l r zero zero d le low h = h
+below-parted (p ∷ ps) l r zero (suc j) d le low h =
+    below-trans p.until (get_or ps j d).until l (above-at p.until ps r.0 j d (omega (arith, low))) h
+below-parted (p ∷ ps) l r (suc i) zero d le low h = absurd (omega (arith, le))
+below-parted (p ∷ ps) l r (suc i) (suc j) d le low h =
+    below-parted ps l r.1 i j d (omega (arith, le)) (omega (arith, low)) h
+
+-- they stand first
+pub rest-stays : (ps : List Piece) (l : Line) (i : ℕ) → i ≤ length ps
+    → AllWithin (λ (p : Piece). is_below p.until l ≡ true) ps 0 i
+    → AllWithin (λ (p : Piece). is_below p.until l ≡ false) ps i (length ps)
+    → drop i ps ≡ filter (λ (p : Piece). not (is_below p.until l)) ps
+rest-stays [] l zero le first last = refl
+rest-stays [] l (suc i) le first last = absurd (omega (arith, le))
+rest-stays (p ∷ ps) l zero le first last =
+    let h : is_below p.until l ≡ false = last 0 p (omega arith) (omega arith) in
+    rw h (ap (λ z. p ∷ z) (rest-stays ps l zero (omega arith) (λ k d lo hi. absurd (omega (arith, hi)))
+    (λ k d lo hi. last (suc k) d (omega arith) (omega (arith, hi)))))
+rest-stays (p ∷ ps) l (suc i) le first last =
+    let h : is_below p.until l ≡ true = first 0 p (omega arith) (omega arith) in
+    rw h (rest-stays ps l i (omega (arith, le)) (λ k d lo hi. first (suc k) d (omega (arith, lo)) (omega (arith, hi)))
+    (λ k d lo hi. last (suc k) d (omega (arith, lo)) (omega (arith, hi))))
 
 pub bound-some : (ps : List Piece) (rest : Option Window) (s : Stamp) (q : Piece)
     → slice_get ps (before s ps) ≡ Some q → q.window ≡ bound_of ps rest s

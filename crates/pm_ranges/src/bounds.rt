@@ -94,7 +94,7 @@ impl Bounds {
     }
 
     /// Sets the line. The bounds that aren't below it stay. Those below it are no longer kept: a lower line later
-    /// brings none of them back.
+    /// brings none of them back. It looks at the pieces that go, whose end is found by halving.
     pub fn trim(&mut self, line: Line)
         ensures { self.new ≡ trimmed line self.old }
     {

@@ -157,9 +157,30 @@ pub fn raised_rest(when: &Interval, window: &Window, rest: &Option<Window>) -> O
     }
 }
 
-/// Drops the pieces that end below the line.
+/// How many pieces end below the line.
+fn below(pieces: &[Piece], line: &Line) -> usize
+    requires { Rising pieces.now }
+    ensures within { result ≤ length pieces.now }
+    ensures others { drop result pieces.now ≡ filter (λ p. not (is_below p.until line.now)) pieces.now }
+{
+    pieces.partition_point(|p| line.is_past(p.until))
+}
+
+/// Drops the first so many pieces, and moves up the others, where there is one to drop.
+fn drop_first(pieces: &mut Vec<Piece>, count: usize)
+    requires { count ≤ length pieces.old.items }
+    ensures { pieces.new.items ≡ drop count pieces.old.items }
+{
+    if count > 0 {
+        drop(pieces.drain(..count));
+    }
+}
+
+/// Drops the pieces that end below the line. They stand first, and their end is found by halving.
 pub fn drop_below(pieces: &mut Vec<Piece>, line: &Line)
+    requires { Rising pieces.old.items }
     ensures { pieces.new.items ≡ filter (λ p. not (is_below p.until line.now)) pieces.old.items }
 {
-    pieces.retain(|p| !line.is_past(p.until));
+    let count = below(pieces.as_slice(), line);
+    drop_first(pieces, count);
 }

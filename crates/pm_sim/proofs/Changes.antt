@@ -22,7 +22,7 @@ use Rattle.pm_clp.specs.Clps.{take_cut, take_put}
 use Rattle.pm_sim.specs.Sims.{AtMost, In, has_cut, has_put}
 use Rattle.pm_sim.specs.Bounds.{row_of}
 use Rattle.pm_sim.proofs.Stamps.{lt_false, lt_tells}
-use Rattle.pm_sim.proofs.Values.{fold_is, fold_same, seen}
+use Rattle.pm_sim.proofs.Values.{seen, value_same}
 
 -- the rows that are told of a record from a stamp on
 abbrev pub rows_from : Parts → Option Stamp → List Row
@@ -105,8 +105,7 @@ pub cut_before : (v : ℕ) (c : CutRow) (r : Parts) (s : Stamp)
 cut_before v c r s names le =
     cond_both (has_cut c.num r.cuts) r (refreshed (with_cut c r)) (λ (z : Parts). record_value z s ≡ record_value r s)
     (λ _. refl)
-    (λ _. fold_is (seen cs s) r.puts r.base
-    ∙ (fold_same (seen cs s) (seen r.cuts s) r.puts r.base same ∙ sym (fold_is (seen r.cuts s) r.puts r.base)))
+    (λ _. value_same (seen cs s) (seen r.cuts s) r.puts r.base same)
   where
     cs : List CutRow
     cs = add_row cut_key c r.cuts

@@ -7,7 +7,6 @@ use Rattle.std.proofs.lemmas.Bool.{cases_lt}
 use Rattle.std.proofs.lemmas.List.{length-map, get_or-map}
 use Rattle.pm_periods.proofs.Receipts.{and_false}
 use Rattle.pm_periods.specs.Records.{is_live}
-use Rattle.pm_sim.proofs.Values.{fold_is, fold_none}
 use Rattle.pm_base.specs.declared.rows.CutRow.{CutRow}
 use Rattle.pm_base.specs.declared.rows.Parts.{Parts}
 use Rattle.pm_base.specs.declared.rows.PutRow.{PutRow}
@@ -39,7 +38,7 @@ use Rattle.pm_sim.proofs.Queries.{has_reg_in}
 use Rattle.pm_sim.proofs.Quiets.{Lively, val, last, Live}
 use Rattle.pm_sim.proofs.Stamps.{past_false, not_past_up}
 use Rattle.pm_sim.proofs.Trims.{filter_in}
-use Rattle.pm_sim.proofs.Values.{seen, fold_none}
+use Rattle.pm_sim.proofs.Values.{seen, value_none}
 use Rattle.pm_base.specs.declared.stamp.Line.TheVariants as line
 use Rattle.pm_base.specs.declared.value.Query.TheVariants as query
 use Rattle.pm_message.specs.declared.Message.TheVariants as message
@@ -81,8 +80,8 @@ trim_late (line.At k) r hp hc hr s np =
     let puts : filter (λ (p : PutRow). not (is_past (line.At k) p.stamp)) r.puts ≡ r.puts =
     keep_all (λ (p : PutRow). not (is_past (line.At k) p.stamp))
     r.puts (λ x i. ap not (past_false (line.At k) x.stamp (hp x i))) in
-    let base : record_value r k ≡ r.base = fold_is (seen r.cuts k) r.puts r.base ∙ fold_none (seen r.cuts k) r.puts
-    r.base (λ x i. and_false (is_live r.cuts x) (stamp_lt x.stamp k) (past_false (line.At k) x.stamp (hp x i))) in
+    let base : record_value r k ≡ r.base = value_none (seen r.cuts k) r.puts r.base (λ x i.
+    and_false (is_live r.cuts x) (stamp_lt x.stamp k) (past_false (line.At k) x.stamp (hp x i))) in
     let cuts : filter (λ (c : CutRow). not (is_past (line.At k) c.stamp)
     || has_put c.num (filter (λ (p : PutRow). not (is_past (line.At k) p.stamp)) r.puts)) r.cuts ≡ r.cuts =
     keep_all (λ (c : CutRow). not (is_past (line.At k) c.stamp)

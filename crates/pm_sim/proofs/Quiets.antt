@@ -45,7 +45,7 @@ use Rattle.pm_sim.proofs.Commits.{hits_at, InPlan, Good, all_out, Ready, Reached
 use Rattle.pm_sim.proofs.Lists.{each_in, each_from, in_left, in_right, in_cases, in_flat, flat_in}
 use Rattle.pm_sim.proofs.Stamps.{lt_false, nums_same, num_eq_self, past_tells, past_true, past_down, past_not, not_past_up, under_zero}
 use Rattle.pm_sim.proofs.Turns.{step_waits, WritesRise, rises_low, step_writes_rise}
-use Rattle.pm_sim.proofs.Values.{fold_is, seen, fold_none, LiveIn, steady_in, at_last_in, after_put_in, value_pair}
+use Rattle.pm_sim.proofs.Values.{seen, value_none, LiveIn, steady_in, at_last_in, after_put_in, value_pair}
 use Rattle.pm_base.specs.declared.stamp.Line.TheVariants as line
 use Rattle.pm_base.specs.declared.value.Query.TheVariants as query
 use Rattle.pm_message.specs.declared.Message.TheVariants as message
@@ -676,8 +676,7 @@ module _ (p : Plan)
 
   value_at_zero : (r : Parts) → record_value r zero_stamp ≡ r.base
   unfolding zero_stamp
-  value_at_zero r = fold_is (seen r.cuts (record { time = 0; agent = 0 })) r.puts r.base
-      ∙ fold_none (seen r.cuts (record { time = 0; agent = 0 })) r.puts r.base (λ u i.
+  value_at_zero r = value_none (seen r.cuts (record { time = 0; agent = 0 })) r.puts r.base (λ u i.
       and_false (is_live r.cuts u) (stamp_lt u.stamp (record { time = 0; agent = 0 }))
       (lt_false u.stamp (record { time = 0; agent = 0 }) (grind arith)))
 

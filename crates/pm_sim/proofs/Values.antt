@@ -1,5 +1,6 @@
 -- What a record's value is at each stamp, by its live puts.
-use Rattle.std.proofs.Common.{◌≡◌, inl, inr, Bool, true, false, List, [], ◌∷◌, filter, refl, arith, ap, sym, ◌∙◌, subst}
+use Rattle.std.proofs.Common.{◌≡◌, ◌⊎◌, inl, inr, Bool, true, false, cond, List, [], ◌∷◌, filter, refl, arith, ap, ap₂, sym, ◌∙◌, subst}
+use Rattle.std.specs.List.{AllByRecursion}
 use Rattle.std.proofs.lemmas.Bool.{cases_Bool}
 use Rattle.std.proofs.lemmas.Bool.Decides.{nat_tests}
 use Rattle.pm_base.specs.Changes.{applied}
@@ -14,8 +15,10 @@ use Rattle.pm_base.specs.declared.stamp.Stamp.{Stamp}
 use Rattle.pm_base.specs.declared.value.Change.{Change}
 use Rattle.pm_base.specs.declared.value.Value.{Value}
 use Rattle.pm_base.specs.Windows.{IsPair}
-use Rattle.pm_periods.specs.Records.{is_seen, record_value, value_after, value_below}
-use Rattle.pm_periods.specs.Rows.{AreDistinct, IsInOrder, has_num, key_lt, put_key}
+use Rattle.pm_periods.specs.Records.{in_value_order, is_seen, record_value, value_after, value_below}
+use Rattle.pm_periods.specs.Rows.{AreDistinct, IsInOrder, add_row, add_rows, has_num, key_lt, put_key, value_key}
+use Rattle.pm_periods.proofs.Ordered.{add_rows-in_order}
+use Rattle.pm_periods.proofs.Sorting.{each_rows, filter_add_rows, sorted-distinct}
 use Rattle.pm_sim.specs.Sims.{AtMost, In, IsWide, Past, after, has_cut}
 use Rattle.pm_sim.proofs.Lists.{each_in}
 use Rattle.pm_sim.proofs.Stamps.{IsUnder, lt_tells, lt_true, lt_false, stamps_same, num_eq_self}
@@ -41,12 +44,60 @@ fold_is keep (p ∷ ps) v = elim (cases_Bool (keep p)) [
 abbrev pub seen : List CutRow → Stamp → PutRow → Bool
 seen cuts s q = is_seen cuts (line.At s) q
 
--- two tests that agree on the rows make the same of a value
-pub fold_same : (f g : PutRow → Bool) (ps : List PutRow) (v : Value)
-    → ((q : PutRow) → In q ps → f q ≡ g q) → fold_puts f ps v ≡ fold_puts g ps v
-fold_same f g [] v h = refl
-fold_same f g (p ∷ ps) v h =
-    ap (λ b. fold_puts f ps (pick b p v)) (h p (inl refl)) ∙ fold_same f g ps (pick (g p) p v) (λ q i. h q (inr i))
+tested_same : (f g : PutRow → Bool) (ps : List PutRow)
+    → ((q : PutRow) → In q ps → f q ≡ g q) → filter f ps ≡ filter g ps
+tested_same f g [] h = refl
+tested_same f g (p ∷ ps) h =
+    ap₂ (λ b z. cond b (p ∷ z) z) (h p (inl refl)) (tested_same f g ps (λ q i. h q (inr i)))
+
+tested_none : (f : PutRow → Bool) (ps : List PutRow) → ((q : PutRow) → In q ps → f q ≡ false) → filter f ps ≡ []
+tested_none f [] h = refl
+tested_none f (p ∷ ps) h =
+    ap (λ b. cond b (p ∷ filter f ps) (filter f ps)) (h p (inl refl)) ∙ tested_none f ps (λ q i. h q (inr i))
+
+-- two tests that agree on the puts make the same of a value
+pub value_same : (f g : PutRow → Bool) (ps : List PutRow) (v : Value) → ((q : PutRow) → In q ps → f q ≡ g q)
+    → value_after (in_value_order (filter f ps)) v ≡ value_after (in_value_order (filter g ps)) v
+value_same f g ps v h = ap (λ z. value_after (in_value_order z) v) (tested_same f g ps h)
+
+-- a test that no put passes leaves a value as it is
+pub value_none : (f : PutRow → Bool) (ps : List PutRow) (v : Value)
+    → ((q : PutRow) → In q ps → f q ≡ false) → value_after (in_value_order (filter f ps)) v ≡ v
+value_none f ps v h = ap (λ z. value_after (in_value_order z) v) (tested_none f ps h)
+
+-- a record's value by the walk along its puts in the order in which they change it
+value_is : (r : Parts) (l : Line) → value_below r l ≡ fold_puts (is_seen r.cuts l) (in_value_order r.puts) r.base
+value_is r l = ap (λ z. value_after z r.base) (sym (filter_add_rows value_key (is_seen r.cuts l) [] r.puts tt))
+    ∙ fold_is (is_seen r.cuts l) (in_value_order r.puts) r.base
+
+row_stays : (p : PutRow) (ps : List PutRow) (q : PutRow) → In q (p ∷ ps) → In q (add_row value_key p ps)
+row_stays p [] q i = i
+row_stays p (y ∷ ys) q i = go (key_lt (value_key p) (value_key y)) (row_stays p ys q) i
+  where
+    go : (b : Bool) → (In q (p ∷ ys) → In q (add_row value_key p ys))
+        → In q (p ∷ (y ∷ ys)) → In q (cond b (p ∷ (y ∷ ys)) (y ∷ add_row value_key p ys))
+    go true again j = j
+    go false again (inl e) = inr (again (inl e))
+    go false again (inr (inl e)) = inl e
+    go false again (inr (inr j)) = inr (again (inr j))
+
+rows_stay : (done ps : List PutRow) (q : PutRow) → In q done ⊎ In q ps → In q (add_rows value_key done ps)
+rows_stay done [] q (inl i) = i
+rows_stay done [] q (inr i) = absurd i
+rows_stay done (p ∷ ps) q (inl i) = rows_stay (add_row value_key p done) ps q (inl (row_stays p done q (inr i)))
+rows_stay done (p ∷ ps) q (inr (inl e)) = rows_stay (add_row value_key p done) ps q (inl (row_stays p done q (inl e)))
+rows_stay done (p ∷ ps) q (inr (inr i)) = rows_stay (add_row value_key p done) ps q (inr i)
+
+each_is_in : (ps : List PutRow) → AllByRecursion (λ q. In q ps) ps
+each_is_in ps = go ps (λ q i. i)
+  where
+    go : (qs : List PutRow) → ((q : PutRow) → In q qs → In q ps) → AllByRecursion (λ q. In q ps) qs
+    go [] h = tt
+    go (q ∷ qs) h = (h q (inl refl), go qs (λ z i. h z (inr i)))
+
+-- the puts in the order in which they change the value are the same ones
+was_in : (ps : List PutRow) (q : PutRow) → In q (in_value_order ps) → In q ps
+was_in ps q i = each_in (λ z. In z ps) (in_value_order ps) q (each_rows value_key (λ z. In z ps) [] ps tt (each_is_in ps)) i
 
 pub fold_none : (f : PutRow → Bool) (ps : List PutRow) (v : Value)
     → ((q : PutRow) → In q ps → f q ≡ false) → fold_puts f ps v ≡ v
@@ -65,11 +116,11 @@ has_out m (p ∷ ps) q h (inr i) e = has_out m ps q (grind (arith, h)) i e
 
 -- the first row isn't after the other, and has another number
 abbrev UpTo : PutRow → PutRow → Type 0
-UpTo q r = (key_lt (put_key r) (put_key q) ≡ false) × (q.num ≡ r.num → ⊥)
+UpTo q r = (key_lt (value_key r) (value_key q) ≡ false) × (q.num ≡ r.num → ⊥)
 
 -- f keeps one row more than g, and none behind it
 pub fold_one : (f g : PutRow → Bool) (r : PutRow) (ps : List PutRow) (v : Value)
-    → IsInOrder put_key ps → AreDistinct put_key ps → In r ps → f r ≡ true → g r ≡ false
+    → IsInOrder value_key ps → AreDistinct put_key ps → In r ps → f r ≡ true → g r ≡ false
     → ((q : PutRow) → In q ps → UpTo q r → f q ≡ g q)
     → ((q : PutRow) → In q ps → UpTo r q → (f q ≡ false) × (g q ≡ false))
     → fold_puts f ps v ≡ applied r.change (fold_puts g ps v)
@@ -78,8 +129,8 @@ fold_one f g r (p ∷ ps) v o d (inl e) fr gr early late =
     let fp : f p ≡ true = ap f (sym e) ∙ fr in
     let gp : g p ≡ false = ap g (sym e) ∙ gr in
     let behind : (q : PutRow) → In q ps → (f q ≡ false) × (g q ≡ false) = λ q j. late q (inr j) (
-      subst (λ (z : PutRow). key_lt (put_key q) (put_key z) ≡ false)
-          (sym e) (each_in (λ (y : PutRow). key_lt (put_key y) (put_key p) ≡ false) ps q o.0 j),
+      subst (λ (z : PutRow). key_lt (value_key q) (value_key z) ≡ false)
+          (sym e) (each_in (λ (y : PutRow). key_lt (value_key y) (value_key p) ≡ false) ps q o.0 j),
       λ same. has_out p.num ps q d.0 j (sym same ∙ ap (λ (z : PutRow). z.num) e),
     ) in
     ap (λ b. fold_puts f ps (pick b p v)) fp ∙ (fold_none f ps (applied p.change v) (λ q j. (behind q j).0)
@@ -87,7 +138,7 @@ fold_one f g r (p ∷ ps) v o d (inl e) fr gr early late =
     (applied r.change) (sym (ap (λ b. fold_puts g ps (pick b p v)) gp ∙ fold_none g ps v (λ q j. (behind q j).1)))))
 fold_one f g r (p ∷ ps) v o d (inr i) fr gr early late =
     ap (λ b. fold_puts f ps (pick b p v)) (early p (inl refl) (
-      each_in (λ (y : PutRow). key_lt (put_key y) (put_key p)
+      each_in (λ (y : PutRow). key_lt (value_key y) (value_key p)
           ≡ false) ps r o.0 i,
       λ same. has_out p.num ps r d.0 i (sym same),
     ))
@@ -99,8 +150,8 @@ LiveIn r s x = (q : PutRow) × In q r.puts × (has_cut q.num r.cuts ≡ false) �
 
 pub steady_in : (r : Parts) (c d : Stamp) → AtMost c d
     → ((s : Stamp) (x : Change) → LiveIn r s x → AtMost c s → IsBefore s d → ⊥) → record_value r c ≡ record_value r d
-steady_in r c d le none = fold_is (seen r.cuts c) r.puts r.base ∙ (fold_same (seen r.cuts c) (seen r.cuts d)
-    r.puts r.base (λ q i. same q i (has_cut q.num r.cuts) refl) ∙ sym (fold_is (seen r.cuts d) r.puts r.base))
+steady_in r c d le none =
+    value_same (seen r.cuts c) (seen r.cuts d) r.puts r.base (λ q i. same q i (has_cut q.num r.cuts) refl)
   where
     same : (q : PutRow) → In q r.puts → (b : Bool) → has_cut q.num r.cuts ≡ b → seen r.cuts c q ≡ seen r.cuts d q
     same q i true e = rw e refl
@@ -114,9 +165,8 @@ steady_in r c d le none = fold_is (seen r.cuts c) r.puts r.base ∙ (fold_same (
 pub at_last_in : (r : Parts) (l : Line) (c : Stamp) → IsUnder l c
     → ((s : Stamp) (x : Change) → LiveIn r s x → AtMost c s → Past l s → ⊥) → record_value r c ≡ value_below r l
 at_last_in r (line.At l) c u none = steady_in r c l u none
-at_last_in r line.End c u none = fold_is (seen r.cuts c) r.puts r.base
-    ∙ (fold_same (seen r.cuts c) (is_seen r.cuts line.End) r.puts r.base (λ q i. same q i (has_cut q.num r.cuts) refl)
-    ∙ sym (fold_is (is_seen r.cuts line.End) r.puts r.base))
+at_last_in r line.End c u none =
+    value_same (seen r.cuts c) (is_seen r.cuts line.End) r.puts r.base (λ q i. same q i (has_cut q.num r.cuts) refl)
   where
     same : (q : PutRow)
         → In q r.puts → (b : Bool) → has_cut q.num r.cuts ≡ b → seen r.cuts c q ≡ is_seen r.cuts line.End q
@@ -132,14 +182,18 @@ pub after_put_in : (r : Parts) (s : Stamp) (x : Change)
     → ((q : PutRow) → In q r.puts → has_cut q.num r.cuts ≡ false → q.stamp ≡ s → q.num ≡ live.0.num)
     → record_value r (after s) ≡ applied x (record_value r s)
 after_put_in r s x ordered distinct live one =
-    fold_is (seen r.cuts (after s)) r.puts r.base
-    ∙ (fold_one (seen r.cuts (after s)) (seen r.cuts s) row r.puts r.base ordered distinct live.1 kept
-    not_yet (λ q i lt. early q i lt (has_cut q.num r.cuts) refl) (λ q i lt. late q i lt (has_cut q.num r.cuts) refl)
-    ∙ (ap (λ z. applied z (fold_puts (seen r.cuts s) r.puts r.base)) live.4
-    ∙ ap (applied x) (sym (fold_is (seen r.cuts s) r.puts r.base))))
+    value_is r (line.At (after s))
+    ∙ (fold_one (seen r.cuts (after s)) (seen r.cuts s) row ps r.base (add_rows-in_order value_key [] r.puts tt)
+    (sorted-distinct put_key value_key r.puts distinct) (rows_stay [] r.puts row (inr live.1)) kept not_yet
+    (λ q i lt. early q (was_in r.puts q i) lt (has_cut q.num r.cuts) refl)
+    (λ q i lt. late q (was_in r.puts q i) lt (has_cut q.num r.cuts) refl)
+    ∙ (ap (λ z. applied z (fold_puts (seen r.cuts s) ps r.base)) live.4 ∙ ap (applied x) (sym (value_is r (line.At s)))))
   where
     row : PutRow
     row = live.0
+
+    ps : List PutRow
+    ps = in_value_order r.puts
 
     at_most_of : (a b : Stamp) → a ≡ b → AtMost a b
     at_most_of a b e = (let t = ap (λ (z : Stamp). z.time) e in let u = ap (λ (z : Stamp). z.agent) e in grind arith)
@@ -151,7 +205,7 @@ after_put_in r s x ordered distinct live one =
     not_yet : seen r.cuts s live.0 ≡ false
     not_yet = rw (live.2) (lt_false live.0.stamp s (at_most_of s live.0.stamp (sym live.3)))
 
-    row_low : (a b : PutRow) → key_lt (put_key b) (put_key a) ≡ false → AtMost a.stamp b.stamp
+    row_low : (a b : PutRow) → key_lt (value_key b) (value_key a) ≡ false → AtMost a.stamp b.stamp
     row_low a b e = grind (arith, nat_tests, e)
 
     early : (q : PutRow)
@@ -192,4 +246,5 @@ fold_pair keep (p ∷ ps) v h w = by (keep p) (fold_pair keep ps v h (λ q i. w 
 pub value_pair : (r : Parts) (l : Line)
     → IsPair r.base → ((q : PutRow) → In q r.puts → IsWide q.change) → IsPair (value_below r l)
 value_pair r l h w =
-    subst IsPair (sym (fold_is (is_seen r.cuts l) r.puts r.base)) (fold_pair (is_seen r.cuts l) r.puts r.base h w)
+    subst IsPair (sym (value_is r l))
+    (fold_pair (is_seen r.cuts l) (in_value_order r.puts) r.base h (λ q i. w q (was_in r.puts q i)))

@@ -8,6 +8,9 @@ use Rattle.pm_queries.proofs.Layouts.{laid-trimmed}
 use Rattle.pm_queries.proofs.Merges.{filter-merged}
 use Rattle.pm_queries.proofs.queries.Queries.trim.Goals as goal
 
+pub drop_below-requires : goal.drop_below-requires
+drop_below-requires c = c.self.invariant.rising
+
 pub invariant_of-self : goal.invariant_of-self
 invariant_of-self c =
     let cs = c.self.inside.classes.items in
