@@ -14,7 +14,7 @@ use Rattle.pm_sim.specs.Ready.{held_back}
 use Rattle.pm_sim.specs.Worlds.{World, after_events, process}
 use Rattle.pm_base.specs.declared.run.Event.TheVariants as event
 use Rattle.pm_kernel.proofs.Leading.{lead_append, lead_none, lead_one}
-use Rattle.pm_kernel.specs.Courses.{AreHeld, Extends, HasGone, WentOn}
+use Rattle.pm_kernel.specs.Courses.{AreHeld, Extends, HasGone, SameCount, WentOn}
 use Rattle.pm_kernel.specs.Runs.{LeadTo}
 use Rattle.pm_kernel.specs.declared.course.Course.{Course}
 
@@ -125,7 +125,9 @@ extends_on a b c x y =
 pub gone_extends : (a b : Course) (k : Option Line) (n : ℕ) → WentOn k n a b → Extends a b
 gone_extends a b k n w = (w.events, w.gone.journal)
 
--- a turn is made within what is left
-pub turn_most : (b : Bool) (d m l : ℕ) → m ≤ l → d ≤ cond b 1 0 → (b ≡ true → 0 < l - m) → m + d ≤ l
-turn_most true d m l le one room = let r = room refl in omega (arith, le, one, r)
-turn_most false d m l le one room = omega (arith, le, one)
+-- so many processes, still
+pub same_count : (c : Course) → SameCount c c
+same_count c = record { all = refl; stirred = refl }
+
+pub same_count_on : (a b c : Course) → SameCount a b → SameCount b c → SameCount a c
+same_count_on a b c x y = record { all = y.all ∙ x.all; stirred = y.stirred ∙ x.stirred }

@@ -1,4 +1,5 @@
 pub mod Counting
+pub mod Coursing
 pub mod Going
 pub mod Growing
 pub mod Journaling

@@ -14,9 +14,9 @@ use Rattle.pm_plan.specs.declared.plan.Plan.{Plan}
 use Rattle.pm_kernel.proofs.Counting.{counts-eq}
 use Rattle.pm_kernel.proofs.Growing.{part-within}
 use Rattle.pm_kernel.specs.Counts.{counted, counted_on, hits_in, writes_in}
-use Rattle.pm_kernel.specs.Courses.{HasCommitted, StandsAt}
+use Rattle.pm_kernel.proofs.Staging.{world_is}
+use Rattle.pm_kernel.specs.Engines.{HasCommitted, RunView, StandsAt, world_of}
 use Rattle.pm_kernel.specs.Runs.{HasRun, IsDone}
-use Rattle.pm_kernel.specs.declared.course.Course.{Course}
 use Rattle.pm_kernel.specs.declared.ran.Outcome.{Outcome}
 use Rattle.pm_kernel.specs.declared.ran.Outcome.TheVariants as outcome
 use Rattle.pm_kernel.specs.declared.writing.Counts.{Counts}
@@ -43,30 +43,30 @@ counts_append c xs ys =
     (one_count c.writes (λ (e : Entry). e.writes) xs ys)
 
 -- what the stages so far have committed and written, and one more
-pub so_far_more : (p : Plan) (s : RunSettings) (first mid new : Course) (a m b : Option (List ℕ)) (es : List Entry)
-    → ((xs : List Entry) × (committed p mid.journal.items ≡ committed p first.journal.items ++ xs)
+pub so_far_more : (p : Plan) (s : RunSettings) (first mid new : RunView) (a m b : Option (List ℕ)) (es : List Entry)
+    → ((xs : List Entry) × (committed p mid.journal ≡ committed p first.journal ++ xs)
     × Appends a m (trace_text p xs))
     → HasCommitted p s mid new es → Appends m b (trace_text p es)
-    → (xs : List Entry) × (committed p new.journal.items ≡ committed p first.journal.items ++ xs)
+    → (xs : List Entry) × (committed p new.journal ≡ committed p first.journal ++ xs)
     × Appends a b (trace_text p xs)
 so_far_more p s first mid new a m b es before c w = (
   before.0 ++ es,
-  c.entries ∙ (ap (λ z. z ++ es) before.1 ∙ append_assoc (committed p first.journal.items) before.0 es),
+  c.entries ∙ (ap (λ z. z ++ es) before.1 ∙ append_assoc (committed p first.journal) before.0 es),
   subst (Appends a b) (sym (text_append p before.0 es))
       (appends-append a m b (trace_text p before.0) (trace_text p es) before.2 w),
 )
 
 -- the run that ends with a stage that failed
-pub ran_short : (p : Plan) (s : RunSettings) (first mid new : Course) (a m b : Option (List ℕ)) (es : List Entry)
+pub ran_short : (p : Plan) (s : RunSettings) (first mid new : RunView) (a m b : Option (List ℕ)) (es : List Entry)
     (o : Outcome) → (o ≡ outcome.WriteFault) ⊎ (o ≡ outcome.Memory)
-    → ((xs : List Entry) × (committed p mid.journal.items ≡ committed p first.journal.items ++ xs)
+    → ((xs : List Entry) × (committed p mid.journal ≡ committed p first.journal ++ xs)
     × Appends a m (trace_text p xs))
     → HasCommitted p s mid new es → AppendsPrefix m b (trace_text p es)
     → (o ≡ outcome.WriteFault → AppendsPart m b (trace_text p es))
-    → HasRun p a b first.journal.items new.journal.items o
+    → HasRun p a b first.journal new.journal o
 ran_short p s first mid new a m b es o short before c part lacks = record {
   entries = before.0 ++ es;
-  more = c.entries ∙ (ap (λ z. z ++ es) before.1 ∙ append_assoc (committed p first.journal.items) before.0 es);
+  more = c.entries ∙ (ap (λ z. z ++ es) before.1 ∙ append_assoc (committed p first.journal) before.0 es);
   whole = λ e. absurd (both short e);
   part = subst (AppendsPrefix a b) (sym (text_append p before.0 es))
       (prefix-after a m b (trace_text p before.0) (trace_text p es) before.2 part);
@@ -83,24 +83,24 @@ ran_short p s first mid new a m b es o short before c part lacks = record {
     both (inr e) (inr f) = (let z = sym e ∙ f in cc)
 
 -- nothing is left to be delivered where the least line is the end
-pub over_none : (p : Plan) (s : RunSettings) (c : Course) → IsValid p → StandsAt p s c
-    → least_line c.world.world ≡ the_line.End → mail c.world.world.links ≡ []
+pub over_none : (p : Plan) (s : RunSettings) (c : RunView) → IsValid p → StandsAt p s c
+    → least_line (world_of c) ≡ the_line.End → mail (world_of c).links ≡ []
 over_none p s c ok stands e =
-    (subst LeastLine (sym stands.world) (least_law p c.journal.items ok stands.journal.journal.legal)).at_end e
+    (subst LeastLine (sym (world_is p c stands.plan)) (least_law p c.journal ok stands.journal.journal.legal)).at_end e
 
-pub over_done : (p : Plan) (s : RunSettings) (c : Course) → IsValid p → StandsAt p s c
-    → (c.journal.items ≡ [] → ⊥) → least_line c.world.world ≡ the_line.End → IsDone p c.journal.items
+pub over_done : (p : Plan) (s : RunSettings) (c : RunView) → IsValid p → StandsAt p s c
+    → (c.journal ≡ [] → ⊥) → least_line (world_of c) ≡ the_line.End → IsDone p c.journal
 over_done p s c ok stands ne e =
-    let none = subst (λ (w : World). mail w.links ≡ []) stands.world (over_none p s c ok stands e) in
+    let none = subst (λ (w : World). mail w.links ≡ []) (world_is p c stands.plan) (over_none p s c ok stands e) in
     record {
       none = none;
-      line = (journal_law p s.epoch (made c.journal.items) c.journal.items ok stands.journal.journal).done_line ne none;
+      line = (journal_law p s.epoch (made c.journal) c.journal ok stands.journal.journal).done_line ne none;
     }
 
 -- a first Commit, and what the run came to behind it
-pub ran_on : (p : Plan) (s : RunSettings) (first mid : Course) (new : List Event) (a m b : Option (List ℕ))
-    (es : List Entry) (o : Outcome) → first.journal.items ≡ [] → HasCommitted p s first mid es
-    → Appends a m (trace_text p es) → HasRun p m b mid.journal.items new o → HasRun p a b [] new o
+pub ran_on : (p : Plan) (s : RunSettings) (first mid : RunView) (new : List Event) (a m b : Option (List ℕ))
+    (es : List Entry) (o : Outcome) → first.journal ≡ [] → HasCommitted p s first mid es
+    → Appends a m (trace_text p es) → HasRun p m b mid.journal new o → HasRun p a b [] new o
 ran_on p s first mid new a m b es o none c w r = record {
   entries = es ++ r.entries;
   more = r.more ∙ ap (λ z. z ++ r.entries) (c.entries ∙ ap (λ j. committed p j ++ es) none);

@@ -1,3 +1,4 @@
 pub mod Counts
-pub mod Courses
 pub mod Runs
+pub mod Engines
+pub mod Courses

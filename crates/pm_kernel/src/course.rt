@@ -1,13 +1,16 @@
 // A run as it goes: its world, and the events that led to it.
-ghost use Rattle.std.specs.Prelude.{◌≡◌, ◌↔◌, ◌≤◌, ◌<◌, ◌+◌, if◌then◌else◌, true, false, length, IfOk};
-ghost use Rattle.pm_base.specs.declared.stamp.Line.TheVariants.{End};
+ghost use Rattle.std.specs.Prelude.{◌≡◌, ◌≤◌, ◌<◌, ◌+◌, ◌++◌, ◌∷◌, [], if◌then◌else◌, true, false, length, IfOk, OnOk};
+ghost use Rattle.pm_base.specs.declared.run.Event.TheVariants.{Commit as TheCommit};
+ghost use Rattle.pm_core.specs.Views.{committed};
 ghost use Rattle.pm_core.specs.Picks.{IsHeld};
-ghost use Rattle.pm_sim.specs.Worlds.{clps_of, least_line};
-ghost use Rattle.pm_kernel.specs.Courses.{AreHeld, Extends, IsFirst, WentOn};
+ghost use Rattle.pm_sim.specs.Worlds.{clps_of, handed, least_line, may_commit};
+ghost use Rattle.pm_kernel.specs.Courses.{AreHeld, Extends, IsAlone, IsCounted, SameCount, Stood, WentOn, run_of};
+ghost use Rattle.pm_kernel.specs.Engines.{HasStaged, IsMoved, first_run};
 ghost use Rattle.pm_plan.specs.Plans.{IsValid};
 
+use crate::engine::Stage;
 use crate::stirred::Stirred;
-use pm_base::{Event, Line, Memory};
+use pm_base::{Entry, Event, Line, List, Memory};
 use pm_core::World;
 use pm_plan::Plan;
 use std::alloc::Global;
@@ -25,7 +28,8 @@ impl<'a> Course<'a> {
     /// The first world, and no event.
     pub fn begin(alloc: Global, plan: &'a Plan) -> Result<Course<'a>, Memory>
         requires { IsValid plan.now }
-        ensures { IfOk result (IsFirst plan.now) }
+        ensures first { IfOk result (λ c. run_of c false ≡ first_run plan.now) }
+        ensures stood { IfOk result (λ c. IsAlone c false) }
     {
         let world = World::first(alloc, plan)?;
         let count = world.count();
@@ -37,49 +41,22 @@ impl<'a> Course<'a> {
         })
     }
 
-    /// Whether nothing is left to be delivered.
-    pub fn is_over(&self) -> bool
-        ensures { (result ≡ true) ↔ (least_line self.now.world.world ≡ End) }
-    {
-        match self.world.least() {
-            Line::End => true,
-            Line::At(_) => false,
-        }
-    }
-
-    // Whether the process gets a turn in a round that may make so many deliveries more.
-    fn may_turn(&self, number: u32, all: bool, left: u64) -> bool
-        ensures room { result ≡ true → 0 < left }
-        ensures all { all ≡ true → 0 < left → result ≡ true }
-    {
-        left > 0 && (all || self.stirred.has(number))
-    }
-
-    // A delivery to that process, where it may have one and the window lets one through; how many were made.
-    fn turn(
-        &mut self,
-        alloc: Global,
-        number: u32,
-        window: Option<Line>,
-        may: bool,
-    ) -> Result<u64, Memory>
-        requires few { may ≡ true → self.old.world.made < 20000000 }
+    // A delivery to that process, where the window lets one through; how many were made.
+    fn turn(&mut self, alloc: Global, number: u32, window: Option<Line>) -> Result<u64, Memory>
+        requires few { self.old.world.made < 20000000 }
         requires well { self.old.world.spoilt ≡ false }
         requires there { number < clps_of self.old.world.plan + length self.old.world.plan.agents }
         ensures gone { IfOk result (λ n. WentOn window n self.old self.new) }
-        ensures one { IfOk result (λ n. n ≤ (if may then 1 else 0)) }
-        ensures held { may ≡ true → IfOk result (λ n. n ≡ 0 → IsHeld self.new.world window number) }
+        ensures one { IfOk result (λ n. n ≤ 1) }
+        ensures held { IfOk result (λ n. n ≡ 0 → IsHeld self.new.world window number) }
         ensures plan { self.new.world.plan ≡ self.old.world.plan }
         ensures grown { Extends self.old self.new }
-        ensures count { self.new.count ≡ self.old.count }
+        ensures count { SameCount self.old self.new }
     {
-        if !may {
-            return Ok(0);
-        }
         let from = match self.world.pick(number, window) {
             Some(from) => from,
             None => {
-                self.stirred.set(number, false);
+                self.stirred.clear(number);
                 return Ok(0);
             }
         };
@@ -89,31 +66,75 @@ impl<'a> Course<'a> {
         Ok(1)
     }
 
-    // A round in number order, of one delivery each, over the processes that may have something, or over all; of at most
-    // so many deliveries.
-    fn round(
+    // A round in number order, of one delivery each, over the processes that may have something; of at most so many
+    // deliveries.
+    fn round(&mut self, alloc: Global, window: Option<Line>, left: u64) -> Result<u64, Memory>
+        requires few { self.old.world.made + left ≤ 20000000 }
+        requires well { self.old.world.spoilt ≡ false }
+        requires all { IsCounted self.old }
+        ensures gone { IfOk result (λ n. WentOn window n self.old self.new) }
+        ensures most { IfOk result (λ n. n ≤ left) }
+        ensures plan { self.new.world.plan ≡ self.old.world.plan }
+        ensures grown { Extends self.old self.new }
+        ensures count { SameCount self.old self.new }
+    {
+        let mut made: u64 = 0;
+        let mut first: u32 = 0;
+        while made < left {
+            let Some(number) = self.stirred.next(first) else {
+                return Ok(made);
+            };
+            made += self.turn(alloc, number, window)?;
+            first = number + 1;
+        }
+        Ok(made)
+    }
+
+    // A round over all processes.
+    fn last_round(&mut self, alloc: Global, window: Option<Line>, left: u64) -> Result<u64, Memory>
+        requires few { self.old.world.made + left ≤ 20000000 }
+        requires well { self.old.world.spoilt ≡ false }
+        requires all { IsCounted self.old }
+        ensures gone { IfOk result (λ n. WentOn window n self.old self.new) }
+        ensures most { IfOk result (λ n. n ≤ left) }
+        ensures idle { IfOk result (λ n. n ≡ 0 → 0 < left → AreHeld window self.old.count self.new) }
+        ensures plan { self.new.world.plan ≡ self.old.world.plan }
+        ensures grown { Extends self.old self.new }
+        ensures count { SameCount self.old self.new }
+    {
+        let mut made: u64 = 0;
+        for number in 0..self.count {
+            if made == left {
+                return Ok(made);
+            }
+            made += self.turn(alloc, number, window)?;
+        }
+        Ok(made)
+    }
+
+    // A round, which may be the last one.
+    fn next_round(
         &mut self,
         alloc: Global,
         window: Option<Line>,
-        all: bool,
+        last: bool,
         left: u64,
     ) -> Result<u64, Memory>
         requires few { self.old.world.made + left ≤ 20000000 }
         requires well { self.old.world.spoilt ≡ false }
-        requires all { self.old.count ≡ clps_of self.old.world.plan + length self.old.world.plan.agents }
+        requires all { IsCounted self.old }
         ensures gone { IfOk result (λ n. WentOn window n self.old self.new) }
         ensures most { IfOk result (λ n. n ≤ left) }
-        ensures idle { IfOk result (λ n. n ≡ 0 → 0 < left → all ≡ true → AreHeld window self.old.count self.new) }
+        ensures idle { last ≡ true → IfOk result (λ n. n ≡ 0 → 0 < left → AreHeld window self.old.count self.new) }
         ensures plan { self.new.world.plan ≡ self.old.world.plan }
         ensures grown { Extends self.old self.new }
-        ensures count { self.new.count ≡ self.old.count }
+        ensures count { SameCount self.old self.new }
     {
-        let mut made: u64 = 0;
-        for number in 0..self.count {
-            let may = self.may_turn(number, all, left - made);
-            made += self.turn(alloc, number, window, may)?;
+        if last {
+            self.last_round(alloc, window, left)
+        } else {
+            self.round(alloc, window, left)
         }
-        Ok(made)
     }
 
     /// Rounds until so many deliveries are made, or none is left that the window lets through. A process that was found
@@ -121,19 +142,19 @@ impl<'a> Course<'a> {
     pub fn epoch(&mut self, alloc: Global, window: Option<Line>, quota: u64) -> Result<u64, Memory>
         requires few { self.old.world.made + quota ≤ 20000000 }
         requires well { self.old.world.spoilt ≡ false }
-        requires all { self.old.count ≡ clps_of self.old.world.plan + length self.old.world.plan.agents }
+        requires all { IsCounted self.old }
         ensures gone { IfOk result (λ n. WentOn window n self.old self.new) }
         ensures most { IfOk result (λ n. n ≤ quota) }
         ensures idle { IfOk result (λ n. n ≡ 0 → 0 < quota → AreHeld window self.old.count self.new) }
         ensures plan { self.new.world.plan ≡ self.old.world.plan }
         ensures grown { Extends self.old self.new }
-        ensures count { self.new.count ≡ self.old.count }
+        ensures count { SameCount self.old self.new }
     {
         self.stirred.stir_all();
         let mut made: u64 = 0;
         let mut last = false;
         while made < quota {
-            let more = self.round(alloc, window, last, quota - made)?;
+            let more = self.next_round(alloc, window, last, quota - made)?;
             if last && more == 0 {
                 return Ok(made);
             }
@@ -141,5 +162,47 @@ impl<'a> Course<'a> {
             made += more;
         }
         Ok(made)
+    }
+
+    // Commits at the least line.
+    fn commit(&mut self, alloc: Global) -> Result<List<Entry>, Memory>
+        requires may { may_commit self.old.world.world (least_line self.old.world.world) ≡ true }
+        ensures entries { IfOk result (λ es. es ≡ handed self.old.world.world (least_line self.old.world.world)) }
+        ensures world { OnOk result (self.new.world ≡
+            committed self.old.world (least_line self.old.world.world)) }
+        ensures journal { OnOk result (self.new.journal.items ≡
+            self.old.journal.items ++ TheCommit (least_line self.old.world.world) ∷ []) }
+        ensures plan { self.new.world.plan ≡ self.old.world.plan }
+        ensures grown { Extends self.old self.new }
+        ensures count { SameCount self.old self.new }
+    {
+        let line = self.world.least();
+        self.journal.push(Event::Commit { line })?;
+        self.world.commit(alloc, line)
+    }
+
+    /// An epoch, and the Commit behind it.
+    pub fn stage(
+        &mut self,
+        alloc: Global,
+        window: Option<Line>,
+        quota: u64,
+    ) -> Result<Stage, Memory>
+        requires valid { IsValid self.old.world.plan }
+        requires stood { Stood self.old.world self.old.journal.items }
+        requires few { self.old.world.made + quota ≤ 20000000 }
+        requires all { IsCounted self.old }
+        ensures done { IfOk result (λ s.
+            HasStaged window s.made s.entries (run_of self.old false) (run_of self.new false)) }
+        ensures stood { OnOk result (Stood self.new.world self.new.journal.items) }
+        ensures most { IfOk result (λ s. s.made ≤ quota) }
+        ensures moves { IfOk result (λ s. s.made ≡ 0 → 0 < quota → IsMoved window (run_of self.old false)) }
+        ensures plan { self.new.world.plan ≡ self.old.world.plan }
+        ensures grown { Extends self.old self.new }
+        ensures count { SameCount self.old self.new }
+    {
+        let made = self.epoch(alloc, window, quota)?;
+        let entries = self.commit(alloc)?;
+        Ok(Stage { made, entries })
     }
 }

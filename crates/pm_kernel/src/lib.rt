@@ -1,8 +1,11 @@
-//! The optimistic run on one thread: epochs of deliveries, a commit at the least line behind each, and the lines of what
-//! is committed written as it is.
+//! The optimistic run: epochs of deliveries, a commit at the least line behind each, and the lines of what is committed
+//! written as it is. An engine makes the deliveries; the one here does it on the calling thread.
 #![tactic(auto)]
 
+mod ahead;
+mod alone;
 mod course;
+mod engine;
 mod ran;
 mod run;
 mod stage;
@@ -10,7 +13,10 @@ mod stirred;
 mod window;
 mod writing;
 
-pub use course::Course;
+pub use ahead::Ahead;
+pub use engine::{Engine, Stage};
 pub use ran::{Outcome, Ran};
-pub use run::run_plain;
+pub use run::{run_over, run_plain};
+pub use stage::{Staged, stage_of};
+pub use window::window_of;
 pub use writing::{Counts, Wrote, write_entries};

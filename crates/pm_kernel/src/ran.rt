@@ -1,6 +1,9 @@
 // What a run comes to.
+ghost use Rattle.std.specs.Prelude.{◌≡◌, []};
+
 use crate::writing::Counts;
-use pm_base::Journal;
+use pm_base::{Journal, List};
+use std::alloc::Global;
 
 /// Why a run ended.
 #[derive(Clone, Copy, Debug, PartialEq, Eq)]
@@ -24,4 +27,18 @@ pub struct Ran {
     pub journal: Journal,
     /// How many steps, hits and writes were committed and written; where the run isn't done, of whole Commits alone.
     pub counts: Counts,
+}
+
+impl Ran {
+    /// A run for whose begin there was no memory.
+    pub fn starved(alloc: Global) -> Ran
+        ensures outcome { result.outcome ≡ Outcome.Memory }
+        ensures journal { result.journal ≡ [] }
+    {
+        Ran {
+            outcome: Outcome::Memory,
+            journal: List::new(alloc),
+            counts: Counts::none(),
+        }
+    }
 }

@@ -19,7 +19,7 @@ loop-left-preserved g c =
       left = omega (arith, m, left, most);
       begun = if_some _ s.window more.begun;
       over = λ _. more.begun;
-      entries = so_far_more p s c.args.course.now c.loop-left.course c.stage.new.course _ _ _ t.0
+      entries = so_far_more p s (g.E.Engine.view c.args.engine.now) (g.E.Engine.view c.loop-left.engine) (g.E.Engine.view c.stage.new.engine) _ _ _ t.0
           c.loop-left.invariant.entries t.1 w.1;
       counts = w.0 ∙ (ap (λ z. counted_on z t.0) c.loop-left.invariant.counts
           ∙ (counts_append no_counts _ t.0 ∙ ap (counted_on no_counts) (sym t.1.entries)));
@@ -30,17 +30,17 @@ loop-left-preserved g c =
 pub returns-in-WriteFault-clause-text : goal.returns-in-WriteFault-clause-text
 returns-in-WriteFault-clause-text g c =
     let t = c.in-WriteFault.ensures.text in
-    ran_short c.args.plan.now c.args.settings.now c.args.course.now c.loop-left.course c.stage.new.course _ _ _ t.0 _
+    ran_short c.args.plan.now c.args.settings.now (g.E.Engine.view c.args.engine.now) (g.E.Engine.view c.loop-left.engine) (g.E.Engine.view c.stage.new.engine) _ _ _ t.0 _
     (inl refl) c.loop-left.invariant.entries t.1 t.2 (λ _. t.3 refl)
 
 pub returns-in-Memory-clause-text : goal.returns-in-Memory-clause-text
 returns-in-Memory-clause-text g c =
     let t = c.in-Memory.ensures.text in
-    ran_short c.args.plan.now c.args.settings.now c.args.course.now c.loop-left.course c.stage.new.course _ _ _ t.0 _
+    ran_short c.args.plan.now c.args.settings.now (g.E.Engine.view c.args.engine.now) (g.E.Engine.view c.loop-left.engine) (g.E.Engine.view c.stage.new.engine) _ _ _ t.0 _
     (inr refl) c.loop-left.invariant.entries t.1 t.2 (λ e. absurd (cc))
 
 pub returns-then-is_over-clause-done : goal.returns-then-is_over-clause-done
 returns-then-is_over-clause-done g c = λ _.
     let over = c.is_over-2.ensures.0 c.if-is_over.true in
-    over_done c.args.plan.now c.args.settings.now c.loop-left.course c.requires.valid c.loop-left.invariant.stands
+    over_done c.args.plan.now c.args.settings.now (g.E.Engine.view c.loop-left.engine) c.requires.valid c.loop-left.invariant.stands
     (c.loop-left.invariant.over over) over

@@ -5,20 +5,20 @@ use Rattle.pm_base.specs.declared.rows.Entry.{Entry}
 use Rattle.pm_base.specs.declared.stamp.Line.TheVariants.{End}
 use Rattle.pm_model.specs.Traces.{trace_text}
 use Rattle.pm_kernel.specs.Counts.{counted_on, no_counts}
-use Rattle.pm_kernel.specs.Courses.{StandsAt}
+use Rattle.pm_kernel.specs.Engines.{StandsAt, world_of}
 use Rattle.pm_sim.specs.Journals.{made}
 use Rattle.pm_sim.specs.Worlds.{committed, least_line}
 use Rattle.pm_kernel.proofs.run.stages.Given as goal
 
 abbrev pub invariant-loop-left : goal.invariant-loop-left
 invariant-loop-left g l = record {
-  stands : StandsAt l.plan l.settings l.course;
-  left : l.left + made l.course.journal.items ≡ l.settings.budget;
-  begun : IfSome l.settings.window (λ _. l.course.journal.items ≢ []);
-  over : least_line l.course.world.world ≡ End → l.course.journal.items ≢ [];
-  entries : (es : List Entry) × (committed l.plan l.course.journal.items ≡ committed l.plan l.fn.course.journal.items ++ es)
+  stands : StandsAt l.plan l.settings (g.E.Engine.view l.engine);
+  left : l.left + made (g.E.Engine.view l.engine).journal ≡ l.settings.budget;
+  begun : IfSome l.settings.window (λ _. (g.E.Engine.view l.engine).journal ≢ []);
+  over : least_line (world_of (g.E.Engine.view l.engine)) ≡ End → (g.E.Engine.view l.engine).journal ≢ [];
+  entries : (es : List Entry) × (committed l.plan (g.E.Engine.view l.engine).journal ≡ committed l.plan (g.E.Engine.view l.fn.engine).journal ++ es)
       × Appends (g.K.Sink.holds l.fn.out) (g.K.Sink.holds l.out) (trace_text l.plan es);
-  counts : l.counts ≡ counted_on no_counts (committed l.plan l.course.journal.items);
+  counts : l.counts ≡ counted_on no_counts (committed l.plan (g.E.Engine.view l.engine).journal);
   faults : g.K.Sink.faults l.fn.out ≤ g.K.Sink.faults l.out;
   stalls : g.K.Sink.stalls l.fn.out ≤ g.K.Sink.stalls l.out;
 }

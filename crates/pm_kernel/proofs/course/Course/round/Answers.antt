@@ -1,24 +1,13 @@
-use Rattle.std.proofs.Common.{◌≡◌, ◌+◌, ◌∙◌, arith, refl, subst}
-use Rattle.pm_kernel.proofs.Going.{gone_on, turn_most, turn_on}
-use Rattle.pm_kernel.specs.Courses.{WentOn}
+use Rattle.std.proofs.Common.{◌+◌, ◌∙◌, arith, refl}
+use Rattle.pm_kernel.proofs.Going.{gone_on, same_count_on}
 use Rattle.pm_kernel.proofs.course.Course.round.Goals as goal
 
-pub loop-number-preserved : goal.loop-number-preserved
-loop-number-preserved c =
-    let k = c.args.window in
-    let b = c.loop-number.self in
-    let d = c.in_ok-made.field-0 in
+pub loop-made-preserved : goal.loop-made-preserved
+loop-made-preserved c =
+    let b = c.loop-made.self in
     record {
-      gone = gone_on c.args.self.now b c.turn.new.self k c.loop-number.made d _
-          c.loop-number.invariant.gone c.in_ok-made.ensures.gone refl;
-      most = turn_most c.may_turn-may.result d c.loop-number.made c.args.left c.loop-number.invariant.most
-          c.in_ok-made.ensures.one c.may_turn-may.ensures.room;
-      held = λ z pos e.
-          let none : d ≡ 0 = omega (arith, z) in
-          let before = c.loop-number.invariant.held (omega (arith, z)) pos e in
-          let may = c.may_turn-may.ensures.all e (omega (arith, z, pos)) in
-          turn_on b c.turn.new.self k c.loop-number.number
-          (subst (λ n. WentOn k n b c.turn.new.self) none c.in_ok-made.ensures.gone) before
-          (c.in_ok-made.ensures.held may none);
-      count = c.turn.ensures.count ∙ c.loop-number.invariant.count;
+      gone = gone_on c.args.self.now b c.turn.new.self c.args.window c.loop-made.made c.in_ok-made.field-0 _
+          c.loop-made.invariant.gone c.in_ok-made.ensures.gone refl;
+      most = let a = c.loop-made-test.true in let e = c.in_ok-made.ensures.one in omega (arith, a, e);
+      count = same_count_on c.args.self.now b c.turn.new.self c.loop-made.invariant.count c.turn.ensures.count;
     }
