@@ -1,5 +1,5 @@
 -- A Commit of cells is one of the world that they stand for.
-use Rattle.std.proofs.Common.{◌≡◌, ℕ, zero, suc, ◌+◌, ◌-◌, ◌<◌, ◌≤◌, ◌⊎◌, inl, inr, Bool, true, false, cond, List, [], ◌∷◌, ◌++◌, map, length, get_or, refl, arith, ap, ap₂, sym, ◌∙◌, subst, append_assoc}
+use Rattle.std.proofs.Common.{◌≡◌, ℕ, zero, suc, ◌+◌, ◌-◌, ◌<◌, ◌≤◌, true, false, List, [], ◌∷◌, ◌++◌, length, get_or, refl, arith, ap, ap₂, sym, ◌∙◌, subst}
 use Rattle.std.specs.Prelude.{nat_lt}
 use Rattle.std.specs.List.{AllByRecursion, flat_map}
 use Rattle.std.proofs.lemmas.Bool.Decides.{nat_tests}
@@ -11,16 +11,16 @@ use Rattle.pm_plan.specs.Plans.{IsValid}
 use Rattle.pm_plan.specs.declared.plan.Plan.{Plan}
 use Rattle.pm_saved.specs.Steps.{hand_out}
 use Rattle.pm_sim.specs.Links.{LinksAre}
-use Rattle.pm_sim.specs.Worlds.{World, clps_of, commit, handed, in_order, may_commit, no_clp, process}
-use Rattle.pm_sim.specs.Worlds.Process.{AtAgent, AtClp}
+use Rattle.pm_sim.specs.Worlds.{World, clps_of, handed, in_order}
 use Rattle.pm_sim.proofs.ReachedWorlds.{reached_on, world_tells}
-use Rattle.pm_cell.specs.Cells.{Committed, Pairs}
-use Rattle.pm_cell.specs.Cores.{State, core, state_at}
-use Rattle.pm_cell.specs.Cores.State.{OfAgent, OfClp}
-use Rattle.pm_cell.specs.Sides.{ClocksBelow, Flies, Side, StandFor}
-use Rattle.pm_cell.specs.Stands.{AreSound, CellView, CellsCommit, CommitsAreTheWorlds, HeardNothing, StandAt, WorldCommits, handed_by, handed_of}
-use Rattle.pm_cell.specs.Views.{FitsPlan, NumberedFrom, Settled, View, nobody, nows, view_at}
-use Rattle.pm_cell.specs.declared.post.Post.{Post}
+use Rattle.pm_cell.specs.Cells.{Committed}
+use Rattle.pm_ends.specs.Numbers.{Pairs}
+use Rattle.pm_cell.specs.Cores.{State, core}
+use Rattle.pm_cell.specs.Cores.State.{OfAgent}
+use Rattle.pm_cell.specs.Sides.{Side}
+use Rattle.pm_cell.specs.Stands.{CellView, CellsCommit, CommitsAreTheWorlds, StandAt, handed_by, handed_of}
+use Rattle.pm_cell.specs.Views.{FitsPlan, NumberedFrom, nobody, nows, view_at}
+use Rattle.pm_ends.specs.declared.post.Post.{Post}
 use Rattle.pm_cell.proofs.Rows.{SameFrame, cells_on, each_on, pairs_at, pairs_with}
 use Rattle.pm_cell.proofs.Instances.{laws}
 use Rattle.pm_cell.proofs.Runs.{has_low, low_has}

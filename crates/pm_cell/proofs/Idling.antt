@@ -1,8 +1,7 @@
 -- Settled cells that are all idle have nothing left.
-use Rattle.std.proofs.Common.{◌≡◌, ℕ, zero, suc, ◌+◌, ◌<◌, ◌≤◌, ◌^◌, ◌⊎◌, inl, inr, Bool, true, false, cond, List, [], ◌∷◌, ◌++◌, map, length, refl, arith, ap, ap₂, sym, ◌∙◌, subst, append_assoc, length-append, Option, None}
+use Rattle.std.proofs.Common.{◌≡◌, ℕ, zero, suc, ◌<◌, ◌≤◌, ◌^◌, inl, inr, Bool, true, false, List, [], ◌∷◌, ◌++◌, length, refl, arith, ap, ap₂, sym, ◌∙◌, subst, append_assoc, length-append, Option}
 use Rattle.std.specs.Prelude.{nat_lt}
 use Rattle.std.specs.List.{AllByRecursion}
-use Rattle.std.proofs.lemmas.Bool.{cases_Bool}
 use Rattle.std.proofs.lemmas.Bool.Decides.{nat_tests}
 use Rattle.pm_base.specs.declared.stamp.Line.{Line}
 use Rattle.pm_history.specs.declared.histories.Heard.{Heard}
@@ -11,26 +10,26 @@ use Rattle.pm_plan.specs.Plans.{IsValid}
 use Rattle.pm_plan.specs.declared.plan.Plan.{Plan}
 use Rattle.pm_sim.specs.Bounds.{between}
 use Rattle.pm_sim.specs.Journals.{made_at}
-use Rattle.pm_sim.specs.Ready.{IsIdle as WorldIsIdle, WindowOk, held_back}
+use Rattle.pm_sim.specs.Ready.{IsIdle as WorldIsIdle, WindowOk}
 use Rattle.pm_sim.specs.Routings.{mail_to}
 use Rattle.pm_sim.specs.Sims.{In}
 use Rattle.pm_sim.specs.Taken.{IsTaken}
-use Rattle.pm_sim.specs.Worlds.{Process, World, clps_of, mail, number, process}
+use Rattle.pm_sim.specs.Worlds.{Process, World, mail, number, process}
 use Rattle.pm_sim.specs.Worlds.Process.{AtAgent, AtClp}
 use Rattle.pm_sim.proofs.ReachedWorlds.{all_taken, some_ready_in, world_tells}
 use Rattle.pm_sim.proofs.Wires.{between_mail}
-use Rattle.pm_cell.specs.Cells.{Came, IsBlocked, IsIdle, Pairs}
+use Rattle.pm_cell.specs.Cells.{Came, IsBlocked, IsIdle}
+use Rattle.pm_ends.specs.Numbers.{Pairs}
 use Rattle.pm_cell.specs.Cores.{State, core, holds_at, state_at, takes_at}
 use Rattle.pm_cell.specs.Machines.{Machine}
 use Rattle.pm_cell.specs.Sides.{Replays, Side, messages}
 use Rattle.pm_cell.specs.Stands.{AreIdle, AreSound, AreWide, CellCame, CellIsIdle, CellView, HeardNothing, IdleCellsAreDone, StandAt}
 use Rattle.pm_cell.specs.Views.{FitsPlan, Frame, Settled, View, nobody, nows, told, view_at}
-use Rattle.pm_cell.specs.declared.post.Post.{Post}
+use Rattle.pm_ends.specs.declared.post.Post.{Post}
 use Rattle.pm_cell.proofs.Rows.{each_at, numbered}
 use Rattle.pm_cell.proofs.Lists.{each_right}
 use Rattle.pm_cell.proofs.Merges.{cancel, head_same}
-use Rattle.pm_cell.proofs.Merging.{came_of}
-use Rattle.pm_cell.proofs.Runs.{has_low, held_is, low_has}
+use Rattle.pm_cell.proofs.Runs.{has_low, held_is}
 use Rattle.pm_cell.proofs.Waiting.{numbers_of, settled_links, taken_at}
 
 past : (vs : List CellView) (k : ℕ) → length vs ≤ k → view_at nobody vs k ≡ view_at nobody [] 0

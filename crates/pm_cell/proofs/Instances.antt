@@ -1,11 +1,10 @@
 -- The world of a plan is such a machine.
-use Rattle.std.proofs.Common.{ℕ, zero, suc, ◌+◌, ◌-◌, ◌<◌, ◌≤◌, ◌≡◌, ◌≢◌, ◌==◌, ◌&&◌, ◌⊎◌, ◌∙◌, Bool, true, false, cond, List, [], ◌∷◌, ◌++◌, Option, Some, None, ap, ap₂, sym, subst, refl, inl, inr, arith, map, length, get_or}
+use Rattle.std.proofs.Common.{ℕ, zero, suc, ◌+◌, ◌-◌, ◌<◌, ◌≤◌, ◌≡◌, ◌≢◌, ◌==◌, ◌&&◌, ◌⊎◌, ◌∙◌, Bool, true, false, cond, List, [], ◌∷◌, ◌++◌, Option, Some, None, ap, sym, subst, refl, inl, inr, arith, map, length, get_or}
 use Rattle.std.specs.Prelude.{nat_lt}
 use Rattle.std.proofs.lemmas.Bool.{cases_Bool}
 use Rattle.std.proofs.lemmas.Bool.Decides.{nat_tests}
-use Rattle.std.proofs.lemmas.List.{get_or-map, get_or-set_other, get_or-set_same, length-map, length-set}
+use Rattle.std.proofs.lemmas.List.{get_or-set_other, get_or-set_same, length-map, length-set}
 use Rattle.pm_alp.specs.Agents.{agent_after, agent_committed, no_agent}
-use Rattle.pm_base.specs.declared.run.Event.TheVariants as event
 use Rattle.pm_base.specs.declared.stamp.Line.{Line}
 use Rattle.pm_clp.specs.Clps.{clp_after, clp_committed}
 use Rattle.pm_core.specs.Links.{links}
@@ -17,15 +16,15 @@ use Rattle.pm_plan.specs.declared.plan.Plan.{Plan}
 use Rattle.pm_sim.specs.Bounds.{between}
 use Rattle.pm_sim.specs.Reached.{Reached}
 use Rattle.pm_sim.specs.Sims.{In}
-use Rattle.pm_sim.specs.Worlds.{Link, Posted, Process, Taken, World, actor_of, addressed, arrives, clps_of, commit, deliver, delivered, first_world, has_mail, home, hub_of, is_legal, is_process, no_clp, number, post_all, posted, process, take_from}
+use Rattle.pm_sim.specs.Worlds.{Link, Posted, Process, Taken, World, actor_of, addressed, arrives, clps_of, commit, deliver, delivered, first_world, has_mail, home, hub_of, is_process, no_clp, number, post_all, posted, process, take_from}
 use Rattle.pm_sim.specs.Worlds.Process.{AtAgent, AtClp}
 use Rattle.pm_sim.proofs.Lanes.{keys, keys_taken, posted_for, sent_for}
-use Rattle.pm_sim.proofs.Letters.{process_same, process_self}
 use Rattle.pm_sim.proofs.Nexts.{taken_between}
 use Rattle.pm_sim.proofs.ReachedWorlds.{reached_on, world_tells}
 use Rattle.pm_sim.proofs.Shapes.{tree_ok}
-use Rattle.pm_sim.proofs.Wires.{posted_else, process_not, took}
-use Rattle.pm_cell.specs.Cores.{State, acts, all_sent, as_agent, as_clp, commits_at, core, has_number, is_there, receivers_of, sent_over, state_at, told_to, tos_from}
+use Rattle.pm_sim.proofs.Wires.{posted_else, took}
+use Rattle.pm_cell.specs.Cores.{State, acts, all_sent, as_agent, as_clp, commits_at, core, is_there, receivers_of, sent_over, state_at, told_to}
+use Rattle.pm_ends.specs.Numbers.{has_number, tos_from}
 use Rattle.pm_cell.specs.Cores.State.{OfAgent, OfClp}
 use Rattle.pm_cell.proofs.Lists.{same_or}
 use Rattle.pm_cell.proofs.Machines.{Laws}

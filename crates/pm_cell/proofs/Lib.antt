@@ -1,5 +1,4 @@
 pub mod Sides
-pub mod Coming
 pub mod Machines
 pub mod Lists
 pub mod Merges
@@ -11,3 +10,12 @@ pub mod Merging
 pub mod Commits
 pub mod Waiting
 pub mod Idling
+pub mod Places
+pub mod Drawing
+pub mod Settles
+pub mod Leasting
+pub mod Firsts
+pub mod Commitments
+pub mod Heard
+pub mod Choices
+pub mod Turns

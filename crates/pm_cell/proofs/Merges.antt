@@ -9,7 +9,7 @@ use Rattle.pm_history.specs.declared.histories.Heard.{Heard}
 use Rattle.pm_message.specs.declared.Message.{Message}
 use Rattle.pm_cell.specs.Machines.{Machine}
 use Rattle.pm_cell.specs.Sides.{ClocksBelow, Flies, Replays, Side, StandFor, after, messages, raised, stamped}
-use Rattle.pm_cell.specs.declared.post.Post.{Post}
+use Rattle.pm_ends.specs.declared.post.Post.{Post}
 use Rattle.pm_cell.proofs.Lists.{FromClock, HeardFrom, InOrder, Rising, each_append, each_in_order, each_map, each_part, each_right, each_with, heard_of, in_order_is, part, part_in_order, same_or}
 use Rattle.pm_cell.proofs.Machines.{AllThere, Laws, Through, is_some_first, legal, run}
 

@@ -1,8 +1,7 @@
 -- The stories of cells merge into one run, which leads to the world that the settled cells stand for.
-use Rattle.std.proofs.Common.{◌≡◌, ℕ, ◌+◌, ◌<◌, ◌≤◌, true, false, List, [], ◌∷◌, ◌++◌, map, length, refl, arith, ap, sym, ◌∙◌, subst, Option}
+use Rattle.std.proofs.Common.{◌≡◌, ℕ, ◌+◌, ◌<◌, ◌≤◌, true, false, List, [], ◌∷◌, ◌++◌, map, length, arith, ap, sym, ◌∙◌, subst, Option}
 use Rattle.std.proofs.lemmas.List.{length-map}
 use Rattle.std.specs.List.{AllByRecursion}
-use Rattle.pm_base.specs.declared.run.Event.{Event}
 use Rattle.pm_base.specs.declared.stamp.Line.{Line}
 use Rattle.pm_history.specs.Merged.{Tagged, in_order, merged, tags}
 use Rattle.pm_history.specs.Merged as order
@@ -10,17 +9,18 @@ use Rattle.pm_history.specs.declared.histories.Heard.{Heard}
 use Rattle.pm_plan.specs.Plans.{IsValid}
 use Rattle.pm_plan.specs.declared.plan.Plan.{Plan}
 use Rattle.pm_sim.specs.Reached.{Reached}
-use Rattle.pm_sim.specs.Worlds.{World, after_events, clps_of}
+use Rattle.pm_sim.specs.Worlds.{World, after_events}
 use Rattle.pm_sim.proofs.ReachedWorlds.{world_tells}
-use Rattle.pm_cell.specs.Cells.{Came, Looked, Pairs}
-use Rattle.pm_cell.specs.Cores.{State, core}
-use Rattle.pm_cell.specs.Sides.{ClocksBelow, Replays, Side, StandFor}
+use Rattle.pm_cell.specs.Cells.{Came}
+use Rattle.pm_ends.specs.Numbers.{Pairs}
+use Rattle.pm_cell.specs.Cores.{core}
+use Rattle.pm_cell.specs.Sides.{ClocksBelow, Replays, StandFor}
 use Rattle.pm_cell.specs.Stands.{AreSound, CellCame, CellLooked, CellView, HaveWindow, HeardNothing, HistoriesMerge, LeadsTo, StandAt}
-use Rattle.pm_cell.specs.Views.{FitsPlan, Frame, Settled, View, nobody, nows, story_of, told, view_at}
+use Rattle.pm_cell.specs.Views.{FitsPlan, Settled, nobody, nows, story_of, told, view_at}
 use Rattle.pm_cell.proofs.Rows.{SameFrame, all_replay, all_there, cells_on, each_at, each_on, length_told, looked_came, pairs_length, pairs_on, pairs_with, part_told, story_told}
-use Rattle.pm_cell.proofs.Coming.{on}
+use Rattle.pm_cell.specs.Laws.{on}
 use Rattle.pm_cell.proofs.Instances.{laws}
-use Rattle.pm_cell.proofs.Lists.{each_in_order, length_in_order, part}
+use Rattle.pm_cell.proofs.Lists.{each_in_order, length_in_order}
 use Rattle.pm_cell.proofs.Machines.{run}
 use Rattle.pm_cell.proofs.Merges.{MergedOf, merge_law}
 use Rattle.pm_cell.proofs.Runs.{delivers_are, has_low, legal_is, low_has, run_is, through_is}

@@ -1,6 +1,6 @@
 -- What a process sends stands at the ends of its links, and where no link is added, all of it goes over links that are
 -- there.
-use Rattle.std.proofs.Common.{ℕ, suc, ◌+◌, ◌<◌, ◌≤◌, ◌≡◌, ◌==◌, ◌⊎◌, ◌∙◌, Bool, true, false, cond, List, [], ◌∷◌, ◌++◌, ap, sym, subst, refl, inl, inr, arith, map, length}
+use Rattle.std.proofs.Common.{ℕ, suc, ◌+◌, ◌<◌, ◌≤◌, ◌≡◌, ◌==◌, ◌⊎◌, ◌∙◌, Bool, true, cond, List, [], ◌∷◌, ◌++◌, ap, sym, subst, refl, inl, inr, arith, map, length}
 use Rattle.std.proofs.lemmas.Bool.{cases_Bool}
 use Rattle.pm_message.specs.declared.Message.{Message}
 use Rattle.pm_message.specs.declared.Message.TheVariants as message
@@ -8,7 +8,6 @@ use Rattle.pm_plan.specs.declared.plan.Plan.{Plan}
 use Rattle.pm_queries.specs.declared.registered.Sent.{Sent}
 use Rattle.pm_sim.specs.Sims.{In}
 use Rattle.pm_sim.specs.Worlds.{Link, Posted, Process, addressed, clps_of, is_link, is_process, post, post_all, posted, process}
-use Rattle.pm_sim.specs.Worlds.Process.{AtAgent, AtClp}
 use Rattle.pm_sim.proofs.Lanes.{Key, keys, sent_for}
 use Rattle.pm_sim.proofs.Letters.{process_same, process_self}
 use Rattle.pm_sim.proofs.Places.{process_agent, process_clp}

@@ -1,16 +1,16 @@
 -- Lists of cells: what is told of each, and what stays as they go on.
-use Rattle.std.proofs.Common.{◌≡◌, ℕ, zero, suc, ◌+◌, ◌<◌, ◌≤◌, ◌≢◌, inl, inr, Bool, true, false, cond, ◌==◌, List, [], ◌∷◌, ◌++◌, map, length, get_or, refl, arith, ap, ap₂, sym, ◌∙◌, subst, append_assoc, append-nil, length-append, Option, Some}
+use Rattle.std.proofs.Common.{◌≡◌, ℕ, zero, suc, ◌+◌, ◌<◌, ◌≤◌, ◌≢◌, inl, inr, Bool, true, false, cond, ◌==◌, List, [], ◌∷◌, ◌++◌, map, length, refl, arith, ap, ap₂, sym, ◌∙◌, subst, append-nil, length-append, Option, Some}
 use Rattle.std.proofs.lemmas.List.{length-map}
 use Rattle.std.specs.List.{AllByRecursion}
 use Rattle.pm_base.specs.declared.stamp.Line.{Line}
 use Rattle.pm_history.specs.Merged.{Tagged, tag, tags}
-use Rattle.pm_history.specs.Stories.{Story}
 use Rattle.pm_history.specs.declared.histories.Heard.{Heard}
 use Rattle.pm_plan.specs.declared.plan.Plan.{Plan}
-use Rattle.pm_cell.specs.Cells.{Came, Looked, Pairs}
+use Rattle.pm_cell.specs.Cells.{Came, Looked}
+use Rattle.pm_ends.specs.Numbers.{Pairs, nth}
 use Rattle.pm_cell.specs.Machines.{Machine}
 use Rattle.pm_cell.specs.Sides.{Replays, Side}
-use Rattle.pm_cell.specs.Views.{AreCellsOf, FitsPlan, Frame, InWire, IsWired, NumberedFrom, OutWire, View, nows, nth, story_of, told, view_at}
+use Rattle.pm_cell.specs.Views.{AreCellsOf, FitsPlan, Frame, NumberedFrom, View, nows, story_of, told, view_at}
 use Rattle.pm_cell.proofs.Lists.{each_append, each_map, heard_of, part, same_or}
 use Rattle.pm_cell.proofs.Machines.{AllThere}
 use Rattle.pm_cell.proofs.Sides.{begins_behind}

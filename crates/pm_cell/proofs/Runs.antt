@@ -1,11 +1,9 @@
 -- A machine's run over the plan's world is a run of the plan.
-use Rattle.std.proofs.Common.{◌≡◌, ℕ, ◌+◌, ◌-◌, ◌<◌, ◌≤◌, Bool, true, false, cond, List, [], ◌∷◌, map, length, refl, arith, ap, sym, ◌∙◌, subst, Option, inl, inr}
+use Rattle.std.proofs.Common.{◌≡◌, ℕ, ◌+◌, ◌-◌, ◌<◌, ◌≤◌, Bool, true, false, cond, List, [], ◌∷◌, map, length, refl, arith, sym, ◌∙◌, subst, Option, inl, inr}
 use Rattle.std.proofs.lemmas.Bool.{and_parts, and_from, cases_Bool}
 use Rattle.std.proofs.lemmas.Bool.Decides.{nat_tests}
-use Rattle.std.specs.List.{AllByRecursion}
 use Rattle.std.specs.Prelude.{nat_lt}
 use Rattle.pm_base.specs.declared.run.Event.{Event}
-use Rattle.pm_base.specs.declared.run.Event.TheVariants as event
 use Rattle.pm_base.specs.declared.stamp.Line.{Line}
 use Rattle.pm_history.specs.Merged.{Tagged}
 use Rattle.pm_history.specs.Merged as merged

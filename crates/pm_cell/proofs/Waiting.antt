@@ -1,10 +1,9 @@
 -- What waits at settled cells is what the world's links have.
-use Rattle.std.proofs.Common.{◌≡◌, ℕ, ◌+◌, ◌<◌, ◌≤◌, ◌⊎◌, inl, inr, Bool, true, false, cond, List, [], ◌∷◌, ◌++◌, map, length, get_or, refl, arith, ap, sym, ◌∙◌, subst, Option, None}
-use Rattle.std.specs.Prelude.{nat_lt, not, ◌&&◌, ◌^◌}
-use Rattle.std.specs.List.{AllByRecursion}
+use Rattle.std.proofs.Common.{◌≡◌, ℕ, ◌<◌, ◌⊎◌, inl, inr, Bool, true, false, cond, List, [], ◌∷◌, length, get_or, refl, arith, ap, sym, ◌∙◌, subst}
+use Rattle.std.specs.Prelude.{nat_lt, not, ◌&&◌}
 use Rattle.std.proofs.lemmas.Bool.{cases_Bool}
 use Rattle.std.proofs.lemmas.Bool.Decides.{nat_tests}
-use Rattle.pm_base.specs.Stamps.{is_below, line_lt, stamp_lt}
+use Rattle.pm_base.specs.Stamps.{is_below, stamp_lt}
 use Rattle.pm_base.specs.declared.stamp.Line.{Line}
 use Rattle.pm_base.specs.declared.stamp.Line.TheVariants as line
 use Rattle.pm_base.specs.declared.stamp.Stamp.{Stamp}
@@ -16,28 +15,23 @@ use Rattle.pm_plan.specs.Plans.{IsValid}
 use Rattle.pm_plan.specs.declared.plan.Plan.{Plan}
 use Rattle.pm_sim.specs.Bounds.{between}
 use Rattle.pm_sim.specs.Links.{LinksAre}
-use Rattle.pm_sim.specs.Ready.{IsIdle, WindowOk, held_back}
 use Rattle.pm_sim.specs.Routings.{mail_to}
 use Rattle.pm_sim.specs.Sims.{In}
 use Rattle.pm_sim.specs.Taken.{IsTaken}
-use Rattle.pm_sim.specs.Worlds.{Link, Mail, Process, World, clps_of, first_world, hub_of, is_link, least_line, line_le, mail, mail_stamp, no_clp, number, process}
+use Rattle.pm_sim.specs.Worlds.{Link, Mail, Process, World, first_world, hub_of, is_link, least_line, line_le, mail, mail_stamp, no_clp, number, process}
 use Rattle.pm_sim.specs.Worlds.Process.{AtAgent, AtClp}
-use Rattle.pm_sim.proofs.Lanes.{InPlan, Key, keys}
+use Rattle.pm_sim.proofs.Lanes.{keys}
 use Rattle.pm_sim.proofs.Nexts.{key_ok, number_process}
 use Rattle.pm_sim.proofs.Readies.{least_in, least_of}
-use Rattle.pm_sim.proofs.ReachedWorlds.{all_taken, some_ready_in, world_tells}
+use Rattle.pm_sim.proofs.ReachedWorlds.{world_tells}
 use Rattle.pm_sim.proofs.Shapes.{tree_ok}
 use Rattle.pm_sim.proofs.Stamps.{stamps_same}
 use Rattle.pm_sim.proofs.Wires.{between_mail, same_link}
-use Rattle.pm_cell.specs.Cores.{State, core, holds_at, state_at, takes_at}
-use Rattle.pm_cell.specs.Sides.{Side, StandFor, messages}
-use Rattle.pm_cell.specs.Stands.{AreIdle, AreWide, CellIsIdle, CellView, IsLeastOf, StandAt, WaitsAt}
-use Rattle.pm_cell.specs.Views.{FitsPlan, Frame, Settled, View, nobody, nows, view_at}
-use Rattle.pm_cell.specs.declared.post.Post.{Post}
-use Rattle.pm_cell.proofs.Rows.{each_at, numbered}
-use Rattle.pm_cell.proofs.Merges.{cancel, head_same}
-use Rattle.pm_cell.proofs.Lists.{each_right}
-use Rattle.pm_cell.proofs.Runs.{has_low, held_is}
+use Rattle.pm_cell.specs.Cores.{core, state_at, takes_at}
+use Rattle.pm_cell.specs.Sides.{StandFor, messages}
+use Rattle.pm_cell.specs.Stands.{CellView, IsLeastOf, StandAt, WaitsAt}
+use Rattle.pm_cell.specs.Views.{Settled, nobody, nows, view_at}
+use Rattle.pm_cell.proofs.Merges.{cancel}
 
 -- where the links are settled, what waits is what the world's links have
 pub settled_links : (p : Plan) (w : World) (vs : List CellView) → StandFor (core p) (nows nobody vs) w → Settled nobody vs
@@ -83,14 +77,14 @@ line_same l k Has low (inr (m, has, e)) low' (inr (m', has', f)) =
     stamp_same : (s t : Stamp) → not (stamp_lt t s) ≡ true → not (stamp_lt s t) ≡ true → s ≡ t
     stamp_same s t a b = stamps_same s t (grind (arith, nat_tests, a, b)) (grind (arith, nat_tests, a, b))
 
-le_self : (s : Stamp) → not (stamp_lt s s) ≡ true
+pub le_self : (s : Stamp) → not (stamp_lt s s) ≡ true
 le_self s = grind (arith, nat_tests)
 
-le_under : (l : Line) (s t : Stamp) → is_below s l ≡ true → line_le l (line.At t) ≡ true → not (stamp_lt t s) ≡ true
+pub le_under : (l : Line) (s t : Stamp) → is_below s l ≡ true → line_le l (line.At t) ≡ true → not (stamp_lt t s) ≡ true
 le_under (line.At u) s t a b = grind (arith, nat_tests, a, b)
 le_under line.End s t a b = absurd (cc)
 
-le_above : (l : Line) (s : Stamp) → is_below s l ≡ false → line_le l (line.At s) ≡ true
+pub le_above : (l : Line) (s : Stamp) → is_below s l ≡ false → line_le l (line.At s) ≡ true
 le_above (line.At u) s a = grind (arith, nat_tests, a)
 le_above line.End s a = absurd (cc)
 

@@ -1,22 +1,12 @@
 -- What becomes of a cell.
-use Rattle.std.specs.Prelude.{ℕ, ◌+◌, ◌≤◌, ◌^◌, ◌≡◌, ◌⊎◌, Bool, true, false, List, [], ◌∷◌, ◌++◌, length}
+use Rattle.std.specs.Prelude.{ℕ, ◌+◌, ◌≤◌, ◌^◌, ◌≡◌, ◌⊎◌, true, false, List, [], ◌∷◌, ◌++◌, length}
 use Rattle.pm_base.specs.declared.stamp.Line.{Line}
+use Rattle.pm_ends.specs.Numbers.{Begins}
 use Rattle.pm_history.specs.declared.histories.Heard.{Heard}
 use Rattle.pm_cell.specs.Machines.{Machine}
-use Rattle.pm_cell.specs.Sides.{Replays, Side, after}
+use Rattle.pm_cell.specs.Sides.{Replays, after}
 use Rattle.pm_cell.specs.Views.{View}
-use Rattle.pm_cell.specs.declared.post.Post.{Post}
-
--- xs goes on as ys
-abbrev pub Begins : {X : Type 0} → List X → List X → Type 0
-Begins {X} xs ys = (more : List X) × (ys ≡ xs ++ more)
-
--- two lists of one length, related place by place
-abbrev pub Pairs : {X : Type 0} → (X → X → Type 0) → List X → List X → Type 0
-Pairs R [] [] = Unit {0}
-Pairs R [] (y ∷ ys) = ⊥
-Pairs R (x ∷ xs) [] = ⊥
-Pairs R (x ∷ xs) (y ∷ ys) = R x y × Pairs R xs ys
+use Rattle.pm_ends.specs.declared.post.Post.{Post}
 
 -- nothing was heard: at most more waits at the ends
 pub record Looked {S : Type 0} (a b : View S) : Type 0 where

@@ -1,5 +1,5 @@
 -- The world of a plan as such a machine: process k is the communication process or the agent of that number.
-use Rattle.std.specs.Prelude.{ℕ, ◌-◌, ◌==◌, ◌||◌, nat_lt, Bool, true, false, not, ◌&&◌, if◌then◌else◌, List, [], ◌∷◌, ◌++◌, map, length, get_or, Option}
+use Rattle.std.specs.Prelude.{ℕ, ◌==◌, nat_lt, Bool, false, if◌then◌else◌, List, [], ◌∷◌, length, get_or, Option}
 use Rattle.pm_alp.specs.Agents.{agent_after, agent_committed, no_agent}
 use Rattle.pm_alp.specs.declared.agent.Agent.{Agent}
 use Rattle.pm_base.specs.declared.stamp.Line.{Line}
@@ -7,12 +7,13 @@ use Rattle.pm_clp.specs.Clps.{ClpState, clp_after, clp_committed}
 use Rattle.pm_clp.specs.Takes.{takes}
 use Rattle.pm_core.specs.Links.{links}
 use Rattle.pm_core.specs.Mails.{receiver}
+use Rattle.pm_ends.specs.Numbers.{froms_to, has_number, tos_from}
 use Rattle.pm_message.specs.declared.Message.{Message}
 use Rattle.pm_plan.specs.declared.plan.Plan.{Plan}
 use Rattle.pm_queries.specs.declared.registered.Sent.{Sent}
 use Rattle.pm_sim.specs.Bounds.{between}
 use Rattle.pm_sim.specs.Ready.{kept_back}
-use Rattle.pm_sim.specs.Worlds.{Process, World, actor_of, clps_of, commit, deliver, home, hub_of, no_clp, process}
+use Rattle.pm_sim.specs.Worlds.{Process, World, actor_of, commit, deliver, home, hub_of, no_clp, process}
 use Rattle.pm_sim.specs.Worlds.Process.{AtAgent, AtClp}
 use Rattle.pm_cell.specs.Machines.{Machine}
 
@@ -31,16 +32,6 @@ abbrev pub as_agent : State → Agent
 as_agent (OfClp c) = no_agent
 as_agent (OfAgent a) = a
 
--- of these links, who sends to process k
-abbrev pub froms_to : ℕ → List (ℕ × ℕ) → List ℕ
-froms_to k [] = []
-froms_to k (l ∷ ls) = if l.0 == k then l.1 ∷ froms_to k ls else froms_to k ls
-
--- and to whom process k sends
-abbrev pub tos_from : ℕ → List (ℕ × ℕ) → List ℕ
-tos_from k [] = []
-tos_from k (l ∷ ls) = if l.1 == k then l.0 ∷ tos_from k ls else tos_from k ls
-
 -- who sends to process k in a plan
 abbrev pub senders_to : Plan → ℕ → List ℕ
 senders_to p k = froms_to k (links p)
@@ -48,16 +39,6 @@ senders_to p k = froms_to k (links p)
 -- to whom process k sends in a plan
 abbrev pub receivers_of : Plan → ℕ → List ℕ
 receivers_of p k = tos_from k (links p)
-
--- the number stands in the list
-abbrev pub has_number : ℕ → List ℕ → Bool
-has_number n [] = false
-has_number n (k ∷ ks) = n == k || has_number n ks
-
--- no number stands twice
-abbrev pub is_distinct : List ℕ → Bool
-is_distinct [] = true
-is_distinct (n ∷ ns) = not (has_number n ns) && is_distinct ns
 
 -- of what a communication process sends, the messages to process a
 abbrev pub sent_to : ℕ → List Sent → List Message

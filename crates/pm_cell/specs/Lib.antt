@@ -4,3 +4,10 @@ pub mod Cores
 pub mod Views
 pub mod Cells
 pub mod Stands
+pub mod Helds
+pub mod Draws
+pub mod Committings
+pub mod Leasts
+pub mod Firsts
+pub mod Turns
+pub mod Laws

@@ -1,11 +1,11 @@
 -- What a process tells of itself: its clock, and all that it sent and received since the run began.
-use Rattle.std.specs.Prelude.{ℕ, suc, max, ◌==◌, ◌≡◌, ◌≤◌, Bool, true, false, if◌then◌else◌, List, [], ◌∷◌, ◌++◌, map, Option}
+use Rattle.std.specs.Prelude.{ℕ, suc, max, ◌==◌, ◌≡◌, ◌≤◌, true, false, if◌then◌else◌, List, [], ◌∷◌, ◌++◌, map, Option}
 use Rattle.std.specs.List.{AllByRecursion}
 use Rattle.pm_base.specs.declared.stamp.Line.{Line}
 use Rattle.pm_history.specs.declared.histories.Heard.{Heard}
 use Rattle.pm_message.specs.declared.Message.{Message}
 use Rattle.pm_cell.specs.Machines.{Machine}
-use Rattle.pm_cell.specs.declared.post.Post.{Post}
+use Rattle.pm_ends.specs.declared.post.Post.{Post}
 
 -- a process: its state, its clock, all that it sent to each process, and all that it received from each
 pub record Side (S : Type 0) : Type 0 where

@@ -9,6 +9,7 @@ use Rattle.pm_base.specs.declared.stamp.Line.TheVariants as line
 use Rattle.pm_history.specs.Merged.{merged}
 use Rattle.pm_message.specs.Messages.{stamp_of}
 use Rattle.pm_message.specs.declared.Message.{Message}
+use Rattle.pm_plan.specs.Plans.{IsValid}
 use Rattle.pm_plan.specs.declared.plan.Plan.{Plan}
 use Rattle.pm_saved.specs.Steps.{hand_out}
 use Rattle.pm_sim.specs.Bounds.{between}
@@ -17,7 +18,8 @@ use Rattle.pm_sim.specs.Reached.{Reached}
 use Rattle.pm_sim.specs.Ready.{WindowOk, held_back}
 use Rattle.pm_sim.specs.Sims.{In}
 use Rattle.pm_sim.specs.Worlds.{World, after_event, after_events, commit, handed, in_order, is_legal_run, line_le, mail, may_commit, process}
-use Rattle.pm_cell.specs.Cells.{Came, Committed, IsIdle, Looked, Pairs, Turned}
+use Rattle.pm_cell.specs.Cells.{Came, Committed, IsIdle, Looked, Turned}
+use Rattle.pm_ends.specs.Numbers.{Pairs}
 use Rattle.pm_cell.specs.Cores.{State, core}
 use Rattle.pm_cell.specs.Cores.State.{OfAgent, OfClp}
 use Rattle.pm_cell.specs.Sides.{ClocksBelow, StandFor, messages}
@@ -90,6 +92,7 @@ handed_by l vs = in_order (flat_map (λ (v : CellView). handed_of l v.now.state)
 -- a Commit may stand at the line: it may in the world that the cells stand for
 pub record MayCommit (l : Line) (vs : List CellView) : Type 0 where
   pub plan : Plan
+  pub valid : IsValid plan
   pub made : ℕ
   pub world : World
   pub stands : StandAt plan made world vs

@@ -1,7 +1,8 @@
 -- What contracts see of a cell, and how the ends of cells belong together.
-use Rattle.std.specs.Prelude.{ℕ, zero, suc, ◌+◌, ◌≡◌, ◌==◌, Bool, false, if◌then◌else◌, List, [], ◌∷◌, map, length, get_or, Option, Some, None}
+use Rattle.std.specs.Prelude.{ℕ, suc, ◌+◌, ◌≡◌, Bool, false, List, [], ◌∷◌, map, length, get_or, Option, Some, None}
 use Rattle.std.specs.List.{AllByRecursion}
 use Rattle.pm_base.specs.declared.stamp.Line.{Line}
+use Rattle.pm_ends.specs.Numbers.{nth}
 use Rattle.pm_history.specs.Stories.{Story}
 use Rattle.pm_history.specs.declared.histories.Heard.{Heard}
 use Rattle.pm_links.specs.Links.{Link}
@@ -10,7 +11,7 @@ use Rattle.pm_sim.specs.Worlds.{clps_of, no_clp}
 use Rattle.pm_cell.specs.Cores.{State, receivers_of, senders_to}
 use Rattle.pm_cell.specs.Cores.State.{OfClp}
 use Rattle.pm_cell.specs.Sides.{Flies, Side}
-use Rattle.pm_cell.specs.declared.post.Post.{Post}
+use Rattle.pm_ends.specs.declared.post.Post.{Post}
 
 -- an end that receives: who sends there, the place of the other end among the sender's, and the link
 pub record InWire : Type 0 where
@@ -95,12 +96,6 @@ NumberedFrom i (v ∷ vs) = (v.frame.number ≡ i) × NumberedFrom (suc i) vs
 -- each link is drawn: what was sent over it is what was received and what waits there
 abbrev pub Settled : {S : Type 0} → S → List (View S) → Type 0
 Settled s vs = (a b : ℕ) → Flies (nows s vs a) (nows s vs b) a b ((view_at s vs a).waiting b)
-
--- the element at a place
-abbrev pub nth : {X : Type 0} → List X → ℕ → Option X
-nth [] i = None
-nth (x ∷ xs) zero = Some x
-nth (x ∷ xs) (suc i) = nth xs i
 
 -- the ends are those of the plan's links to that process and from it
 pub record FitsPlan (p : Plan) (f : Frame) : Type 0 where

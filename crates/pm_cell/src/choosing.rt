@@ -1,0 +1,155 @@
+//! Which item a cell hears next.
+ghost use Rattle.std.specs.Prelude.{◌≡◌, ℕ, true, false, IfSome, MatchOption, Some, None};
+ghost use Rattle.pm_ends.specs.Ends.{AllGrew};
+ghost use Rattle.pm_plan.specs.declared.plan.Plan.{Plan as ThePlan};
+ghost use Rattle.pm_sim.specs.Ready.{kept_back};
+ghost use Rattle.pm_sim.specs.Worlds.{process as place};
+ghost use Rattle.pm_cell.specs.Cores.{holds_at, takes_at};
+ghost use Rattle.pm_cell.specs.Helds.{IsProcessOf, made_of, state_of, view_of};
+ghost use Rattle.pm_cell.specs.Turns.{IsNext, IsSooner, TookFrom, is_ready, stamp_at};
+
+use crate::cell::Cell;
+use pm_alp::Alp;
+use pm_base::{Line, Stamp};
+use pm_core::Process;
+use pm_ends::{InEnds, Post, senders_rise};
+use pm_message::Message;
+
+// Above all clocks of a run: it makes far fewer deliveries.
+const FAR: u64 = 1 << 63;
+
+// An agent's process has room for the numbers of so many deliveries.
+const MOST: u64 = 20_000_000;
+
+// Whether a window keeps a message of an agent's process back: a Wake that it awaits and that isn't below the window.
+fn keeps_back(alp: &Alp<'_>, window: Option<Line>, message: &Message) -> bool
+    ensures { result ≡ kept_back window alp.now.agent.awaited message.now }
+{
+    match (window, message) {
+        (Some(line), Message::Wake { num, stamp }) => alp.awaits(*num) && !line.is_past(*stamp),
+        _ => false,
+    }
+}
+
+// Whether a window keeps a message of a process back.
+fn holds(process: &Process<'_>, window: Option<Line>, message: &Message) -> bool
+    ensures { (p : ThePlan) (k : ℕ) → IsProcessOf p k process.now →
+        result ≡ holds_at window (place p k) (state_of process.now) message.now }
+{
+    match process {
+        Process::Clp(_) => false,
+        Process::Alp(alp) => keeps_back(alp, window, message),
+    }
+}
+
+// Whether a process takes a message from there.
+fn takes(process: &Process<'_>, from: u32, message: &Message) -> bool
+    ensures { (p : ThePlan) (k : ℕ) → IsProcessOf p k process.now →
+        result ≡ takes_at p (place p k) (made_of process.now) (state_of process.now) from message.now }
+{
+    match process {
+        Process::Clp(clp) => clp.takes(from, message),
+        Process::Alp(alp) => alp.made() < MOST,
+    }
+}
+
+// Looks at each end where nothing waits.
+fn poll_all(inns: &mut InEnds)
+    ensures { AllGrew inns.old inns.new }
+{
+    for at in 0..inns.len() {
+        inns.poll(at);
+    }
+}
+
+// The first item that may be delivered at a place: its moment.
+#[derive(Clone, Copy)]
+struct Front {
+    at: usize,
+    stamp: Stamp,
+}
+
+// The one that is heard first, of one at an earlier place and the item of that moment, if there is one: the one of the
+// lesser moment.
+fn sooner(next: Option<Front>, at: usize, stamp: Option<Stamp>) -> Option<Front>
+    ensures some { IfSome result (IsSooner next at stamp) }
+    ensures none { result ≡ None → (next ≡ None) × (stamp ≡ None) }
+{
+    match (next, stamp) {
+        (next, None) => next,
+        (None, Some(stamp)) => Some(Front { at, stamp }),
+        (Some(front), Some(stamp)) => {
+            if stamp.is_before(&front.stamp) {
+                Some(Front { at, stamp })
+            } else {
+                Some(front)
+            }
+        }
+    }
+}
+
+impl<'a> Cell<'a> {
+    // Looks at each in-end where nothing waits.
+    pub(crate) fn look(&mut self)
+        ensures same { self.new ≡ record self.old { inns = self.new.inns } }
+        ensures grew { AllGrew self.old.inns self.new.inns }
+    {
+        poll_all(&mut self.inns);
+    }
+
+    // Whether the item from there may be delivered.
+    fn is_ready(&self, from: u32, post: &Post) -> bool
+        requires { self.now.spoilt ≡ false }
+        ensures { result ≡ is_ready (view_of self.now) from post.now }
+    {
+        post.clock < FAR
+            && self.clock < FAR
+            && !holds(&self.process, self.window, &post.message)
+            && takes(&self.process, from, &post.message)
+    }
+
+    // The moment of the first item of the in-end at that place, where it may be delivered.
+    fn ready_at(&self, at: usize) -> Option<Stamp>
+        requires { self.now.spoilt ≡ false }
+        ensures { result ≡ stamp_at at self.now }
+    {
+        let from = self.inns.from(at)?;
+        let post = self.inns.first(at)?;
+        if self.is_ready(from, post) {
+            Some(post.message.stamp())
+        } else {
+            None
+        }
+    }
+
+    // The place of the in-end whose first item is heard next: of those that may be delivered the one of the least
+    // moment, at one moment the one of the least sender.
+    fn next_place(&self) -> Option<usize>
+        requires { self.now.spoilt ≡ false }
+        ensures { MatchOption result ((at : ℕ) → stamp_at at self.now ≡ None) (IsNext self.now) }
+    {
+        let mut next = None;
+        for at in 0..self.inns.len() {
+            next = sooner(next, at, self.ready_at(at));
+        }
+        match next {
+            Some(front) => Some(front.at),
+            None => None,
+        }
+    }
+
+    // Takes the item that is heard next, and tells who sent it: none where no first item of an in-end may be delivered.
+    pub(crate) fn take_next(&mut self) -> Option<(u32, Post)>
+        requires { self.old.spoilt ≡ false }
+        ensures same { self.new ≡ record self.old { inns = self.new.inns } }
+        ensures item { MatchOption result
+            ((self.new ≡ self.old) × ((at : ℕ) → stamp_at at self.old ≡ None))
+            (λ r. TookFrom r.0 r.1 self.old.inns self.new.inns × (is_ready (view_of self.old) r.0 r.1 ≡ true)) }
+    {
+        senders_rise(&self.inns);
+        let at = self.next_place()?;
+        let from = self.inns.from(at)?;
+        let post = self.inns.take(at)?;
+        Some((from, post))
+    }
+}

@@ -1,0 +1,4 @@
+pub mod Lists
+pub mod Laws
+mod Held
+mod Wirings
