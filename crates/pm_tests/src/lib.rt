@@ -1,9 +1,16 @@
-//! Tests of the program over devices in memory, in a crate of their own so that no other is proved twice for them.
+//! Tests of the program over devices in memory, and of a communication process by its calls, in a crate of their own so
+//! that no other is proved twice for them.
 #![tactic(auto)]
 
+#[cfg(test)]
+mod cells;
+#[cfg(test)]
+mod clps;
 #[cfg(test)]
 mod modes;
 #[cfg(test)]
 mod rows;
+#[cfg(test)]
+mod schedules;
 #[cfg(test)]
 mod tests;

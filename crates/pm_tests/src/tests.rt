@@ -8,7 +8,7 @@ use std::alloc::{AllocError, Global};
 use std::test::Fail;
 
 /// One agent that counts up to the horizon.
-const COUNTER: &str =
+pub const COUNTER: &str =
     "version = 1\nhorizon = 2\n[[clp]]\nname = \"root\"\n[[class]]\nname = \"cell\"\n[[class.var]]\nname = \"c0\"\nat = \"root\"\n[[agent]]\nname = \"ant\"\nhome = \"root\"\nrule = \"\"\"\nread a = c0\nset c0 = (a.x + 1), 0\n\"\"\"\n";
 
 const TWO_LINES: &str = "0 ant [c0=0,0] c0:=1,0\n1 ant [c0=1,0] c0:=2,0\n";
