@@ -213,11 +213,20 @@ impl<'a, R: Threads + Sync + Copy, G: Gate + Sync> Crew<'a, R, G> {
         ahead_of(alloc, self.cells.as_slice(), count)
     }
 
-    // How many workers the next epoch has, after one that made so many deliveries.
-    fn choose(&mut self, made: u64)
+    // How many workers an epoch of at most so many deliveries has.
+    fn hands(&self, quota: u64) -> u32
+        ensures { 1 ≤ result }
+    {
+        if quota == 0 { 1 } else { self.hands }
+    }
+
+    // How many workers the next epoch has, after one that made so many deliveries of at most so many.
+    fn choose(&mut self, quota: u64, made: u64)
         ensures { self.new ≡ self.old }
     {
-        self.hands = if made < WORTH { 1 } else { self.workers };
+        if quota > 0 {
+            self.hands = if made < WORTH { 1 } else { self.workers };
+        }
     }
 
     /// An epoch of at most `quota` deliveries, each let through by the window, and a Commit at the least line behind it.
@@ -239,12 +248,13 @@ impl<'a, R: Threads + Sync + Copy, G: Gate + Sync> Crew<'a, R, G> {
         ensures plan { self.new.plan ≡ self.old.plan }
     {
         let closed = self.journal.len();
+        let hands = self.hands(quota);
         self.spoilt = true;
         let done = stage(
             &self.rt,
             alloc,
             self.gate,
-            self.hands,
+            hands,
             self.plan,
             &mut self.cells,
             &mut self.journal,
@@ -254,7 +264,7 @@ impl<'a, R: Threads + Sync + Copy, G: Gate + Sync> Crew<'a, R, G> {
         match done {
             Ok(stage) => {
                 self.spoilt = false;
-                self.choose(stage.made);
+                self.choose(quota, stage.made);
                 Ok(stage)
             }
             Err(_) => {

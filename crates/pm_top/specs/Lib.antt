@@ -1,8 +1,10 @@
 pub mod Demo
 pub mod Endings
 pub mod Headline
+pub mod Makers
 pub mod Outputs
 pub mod Printed
 pub mod Readings
 pub mod Refusals
+pub mod Serving
 pub mod Speech

@@ -9,6 +9,10 @@ pub record SinkSight : Type 0 where
   pub faults : ℕ
   pub stalls : ℕ
 
+-- what they see of one whose bytes and counts are told so
+abbrev pub sight : {K : Type 0} → (K → Option (List ℕ)) → (K → ℕ) → (K → ℕ) → K → SinkSight
+sight holds faults stalls k = record { holds = holds k; faults = faults k; stalls = stalls k }
+
 -- a sink failed in the call, or took nothing of what it was offered
 abbrev pub Fails : SinkSight → SinkSight → Type 0
 Fails old new = Rose old.faults new.faults ⊎ Rose old.stalls new.stalls

@@ -5,12 +5,14 @@ ghost use Rattle.pm_io.specs.Causes.{AppendsPart, Rose};
 ghost use Rattle.pm_plan.specs.Plans.{IsValid};
 ghost use Rattle.pm_top.specs.Demo.{sum_from, told_line};
 ghost use Rattle.pm_top.specs.Endings.{ending_of};
+ghost use Rattle.pm_top.specs.Makers.{Makes};
 ghost use Rattle.pm_top.specs.Printed.{IsDemoPrinted};
+ghost use Rattle.pm_top.specs.Speech.{sight};
 ghost use Rattle.pm_words.specs.Ranges.{IsInRange};
 
 use crate::check::add;
 use crate::optimistic::write_optimistic;
-use pm_base::Memory;
+use pm_base::{Memory, RunSettings};
 use pm_io::{MemSink, Sink, write_whole};
 use pm_kernel::{Counts, Outcome, Ran};
 use pm_plan::Plan;
@@ -71,9 +73,16 @@ fn write_told<K: Sink>(alloc: Global, seed: u64, counts: &Counts, sum: u64, out:
     }
 }
 
-/// Runs a plan optimistically, and writes one line of what its whole run came to. The trace goes into memory: a write
+/// Makes the optimistic run of a plan, and writes one line of what its whole run came to. The trace goes into memory: a write
 /// that fails there wanted memory.
-pub fn write_demo<K: Sink>(alloc: Global, plan: &Plan, settings: &Settings, out: &mut K) -> Ran
+pub fn write_demo<K: Sink, M: FnOnce(&Plan, &RunSettings, &mut MemSink) -> Ran>(
+    make: M,
+    alloc: Global,
+    plan: &Plan,
+    settings: &Settings,
+    out: &mut K,
+) -> Ran
+    requires makes { Makes M.FnOnce (sight ⟦<MemSink as Sink>⟧.holds ⟦<MemSink as Sink>⟧.faults ⟦<MemSink as Sink>⟧.stalls) make }
     requires valid { IsValid plan.now }
     requires range { IsInRange settings.now.run }
     ensures printed { IsDemoPrinted settings.now plan.now (ending_of result.outcome) result.journal
@@ -88,7 +97,7 @@ pub fn write_demo<K: Sink>(alloc: Global, plan: &Plan, settings: &Settings, out:
         journal: false,
         ..*settings
     };
-    let ran = write_optimistic(alloc, plan, &quiet, &mut trace);
+    let ran = write_optimistic(make, alloc, plan, &quiet, &mut trace);
     match ran.outcome {
         Outcome::Done => {
             let outcome = write_told(

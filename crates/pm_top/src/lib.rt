@@ -4,6 +4,7 @@
 mod check;
 mod demo;
 mod laws;
+mod makers;
 mod optimistic;
 mod outcome;
 mod program;
@@ -11,6 +12,7 @@ mod reading;
 mod refusals;
 mod replays;
 mod run;
+mod serving;
 #[cfg(test)]
 mod tests;
 mod texts;

@@ -8,15 +8,18 @@ ghost use Rattle.pm_io.specs.Causes.{AppendsPart, Rose};
 ghost use Rattle.pm_model.specs.Traces.{end_line};
 ghost use Rattle.pm_plan.specs.Plans.{IsValid};
 ghost use Rattle.pm_top.specs.Endings.{ending_of};
+ghost use Rattle.pm_top.specs.Makers.{Makes};
 ghost use Rattle.pm_top.specs.Outputs.{asked_lines};
 ghost use Rattle.pm_top.specs.Printed.{IsRunPrinted};
+ghost use Rattle.pm_top.specs.Speech.{sight};
 ghost use Rattle.pm_words.specs.Ranges.{IsInRange};
 
+use crate::makers::made_by;
 use crate::run::write_end;
-use pm_base::{Event, Journal, List};
+use pm_base::{Event, Journal, List, RunSettings};
 use pm_history::print;
 use pm_io::{Sink, write_whole};
-use pm_kernel::{Outcome, Ran, run_plain};
+use pm_kernel::{Outcome, Ran};
 use pm_plan::Plan;
 use pm_words::Settings;
 use std::alloc::Global;
@@ -108,14 +111,16 @@ fn write_rest<K: Sink>(
     }
 }
 
-/// Runs a plan optimistically: what is committed is written as it is, and behind all of it the end line and, where they
-/// are asked for, the journal's lines.
-pub fn write_optimistic<K: Sink>(
+/// Makes the optimistic run of a plan: what is committed is written as it is, and behind all of it the end line and, where
+/// they are asked for, the journal's lines.
+pub fn write_optimistic<K: Sink, F: FnOnce(&Plan, &RunSettings, &mut K) -> Ran>(
+    make: F,
     alloc: Global,
     plan: &Plan,
     settings: &Settings,
     out: &mut K,
 ) -> Ran
+    requires makes { Makes F.FnOnce (sight K.holds K.faults K.stalls) make }
     requires valid { IsValid plan.now }
     requires range { IsInRange settings.now.run }
     ensures printed { IsRunPrinted settings.now plan.now (ending_of result.outcome) result.journal
@@ -127,7 +132,7 @@ pub fn write_optimistic<K: Sink>(
     ensures faults { K.faults out.old ≤ K.faults out.new }
     ensures stalls { K.stalls out.old ≤ K.stalls out.new }
 {
-    let ran = run_plain(alloc, plan, &settings.run, out);
+    let ran = made_by(make, plan, &settings.run, out);
     match ran.outcome {
         Outcome::Done => {
             let outcome = write_rest(alloc, ran.counts.steps, settings.journal, &ran.journal, out);

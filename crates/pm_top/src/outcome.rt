@@ -1,7 +1,7 @@
 ghost use Rattle.std.specs.Prelude.{◌≡◌, ◌≢◌};
 ghost use Rattle.pm_top.specs.Endings.{error_line, status_of};
 ghost use Rattle.pm_top.specs.Headline.{Offers};
-ghost use Rattle.pm_top.specs.Speech.{Speaks};
+ghost use Rattle.pm_top.specs.Speech.{Speaks, sight};
 
 use crate::refusals::{say, say_illegal, say_refusal, say_retired};
 use pm_io::{Failed, Sink};
@@ -54,8 +54,8 @@ pub fn status_of(ending: &Ending) -> u8
 /// Says the line of an ending.
 fn say_ending<E: Sink>(err: &mut E, ending: &Ending) -> Result<(), Failed>
     ensures said { ending.now ≢ Ending.Done → Speaks result
-        (record { holds = E.holds err.old; faults = E.faults err.old; stalls = E.stalls err.old })
-        (record { holds = E.holds err.new; faults = E.faults err.new; stalls = E.stalls err.new })
+        (sight E.holds E.faults E.stalls err.old)
+        (sight E.holds E.faults E.stalls err.new)
         (error_line ending.now) }
     ensures silent { ending.now ≡ Ending.Done → err.new ≡ err.old }
 {
@@ -78,8 +78,8 @@ fn say_ending<E: Sink>(err: &mut E, ending: &Ending) -> Result<(), Failed>
 pub fn offer<E: Sink>(err: &mut E, ending: &Ending)
     ensures silent { ending.now ≡ Ending.Done → err.new ≡ err.old }
     ensures told { ending.now ≢ Ending.Done → Offers
-        (record { holds = E.holds err.old; faults = E.faults err.old; stalls = E.stalls err.old })
-        (record { holds = E.holds err.new; faults = E.faults err.new; stalls = E.stalls err.new })
+        (sight E.holds E.faults E.stalls err.old)
+        (sight E.holds E.faults E.stalls err.new)
         (error_line ending.now) }
 {
     let _ = say_ending(err, ending);

@@ -1,4 +1,5 @@
 ghost use Rattle.std.specs.Prelude.{ℕ, ◌≡◌, ◌≢◌, ◌⊎◌, ◌<◌, ◌≤◌, ◌^◌, [], true, false, Some, None, IfSome, Ok, Err, length, map, string_bytes};
+ghost use denote.Param.Send.{IsSync};
 ghost use Rattle.std.specs.Io.KnownBytes.{IsAtEnd};
 ghost use Rattle.pm_io.specs.Causes.{Rose};
 ghost use Rattle.pm_plan.specs.Plans.{IsValid};
@@ -7,28 +8,34 @@ ghost use Rattle.pm_scenario.specs.Scenarios.{plan_of};
 ghost use Rattle.pm_scenario.specs.declared.fault.ScenarioFault.{ScenarioFault as TheFault};
 ghost use Rattle.pm_top.specs.Endings.{Accepts, ending_of, error_line, status_of};
 ghost use Rattle.pm_top.specs.Headline.{EndsRun, HasBudget, HasRun, IsServed, Offers, ReadsAll, WritesNothing, given};
+ghost use Rattle.pm_top.specs.Makers.{Makes};
 ghost use Rattle.pm_top.specs.Printed.{PrintedIn, PrintedOf, PrintedWhere};
 ghost use Rattle.pm_top.specs.Readings.{IsAccepted, IsLongInput, IsLongScenario, IsRefused, IsTakenAtMost, IsUnfit, longest, scenario_in};
+ghost use Rattle.pm_top.specs.Serving.{settings_alone, settings_served};
+ghost use Rattle.pm_top.specs.Speech.{sight};
 ghost use Rattle.pm_words.specs.Ranges.{IsInRange};
 ghost use Rattle.pm_words.specs.Words.{reads, settings_of};
 
 use crate::check::write_check;
 use crate::demo::write_demo;
+use crate::makers::Makers;
 use crate::optimistic::write_optimistic;
 use crate::outcome::{Ending, offer, status_of};
 use crate::reading::{LONGEST_SCENARIO, Unread, longest, read_whole, scenario_in};
 use crate::replays::write_replay;
 use crate::run::write_run;
+use crate::serving::read_served;
 use crate::texts::{write_cut, write_place, write_upgrade};
 use crate::work::{Worked, still};
-use pm_base::Journal;
+use pm_base::{Journal, RunSettings};
 use pm_gen::scenario_of;
-use pm_io::{Gate, Sink, Source};
-use pm_kernel::Outcome;
+use pm_io::{Gate, MemSink, Sink, Source};
+use pm_kernel::{Outcome, Ran, run_plain};
 use pm_plan::Plan;
 use pm_plan::laws::limits_are_kept;
 use pm_replay::parts;
 use pm_scenario::{ScenarioFault, read};
+use pm_threads::{Hands, run};
 use pm_upgrade::read_plans_can_be_printed;
 use pm_words::{Mode, Settings, WordsFault};
 use std::alloc::Global;
@@ -58,7 +65,12 @@ fn ending_of(outcome: Outcome) -> Ending
 }
 
 /// Writes what the mode writes of a plan.
-fn write_output<K: Sink>(
+fn write_output<
+    K: Sink,
+    F: FnOnce(&Plan, &RunSettings, &mut K) -> Ran,
+    M: FnOnce(&Plan, &RunSettings, &mut MemSink) -> Ran,
+>(
+    makers: Makers<F, M>,
     alloc: Global,
     mode: Mode,
     settings: &Settings,
@@ -66,6 +78,8 @@ fn write_output<K: Sink>(
     plan: &Plan,
     out: &mut K,
 ) -> Worked
+    requires output { Makes F.FnOnce (sight K.holds K.faults K.stalls) makers.to_output }
+    requires memory { Makes M.FnOnce (sight ⟦<MemSink as Sink>⟧.holds ⟦<MemSink as Sink>⟧.faults ⟦<MemSink as Sink>⟧.stalls) makers.to_memory }
     requires valid { IsValid plan.now }
     requires range { IsInRange settings.now.run }
     requires moves { plan.now.move_after < 2 ^ 63 }
@@ -92,14 +106,14 @@ fn write_output<K: Sink>(
             still(alloc, ending_of(outcome))
         }
         Mode::Run => {
-            let ran = write_optimistic(alloc, plan, settings, out);
+            let ran = write_optimistic(makers.to_output, alloc, plan, settings, out);
             Worked {
                 ending: ending_of(ran.outcome),
                 journal: ran.journal,
             }
         }
         Mode::Demo => {
-            let ran = write_demo(alloc, plan, settings, out);
+            let ran = write_demo(makers.to_memory, alloc, plan, settings, out);
             Worked {
                 ending: ending_of(ran.outcome),
                 journal: ran.journal,
@@ -113,13 +127,20 @@ fn write_output<K: Sink>(
 }
 
 /// Writes what the mode writes of a scenario's text.
-fn run_text<K: Sink>(
+fn run_text<
+    K: Sink,
+    F: FnOnce(&Plan, &RunSettings, &mut K) -> Ran,
+    M: FnOnce(&Plan, &RunSettings, &mut MemSink) -> Ran,
+>(
+    makers: Makers<F, M>,
     alloc: Global,
     settings: &Settings,
     bytes: &[u8],
     scenario: &[u8],
     out: &mut K,
 ) -> Worked
+    requires output { Makes F.FnOnce (sight K.holds K.faults K.stalls) makers.to_output }
+    requires memory { Makes M.FnOnce (sight ⟦<MemSink as Sink>⟧.holds ⟦<MemSink as Sink>⟧.faults ⟦<MemSink as Sink>⟧.stalls) makers.to_memory }
     requires few { length scenario.now ≤ 4194304 }
     requires short { length bytes.now ≤ longest settings.now.mode }
     requires scenario { scenario.now ≡ scenario_in settings.now.mode bytes.now }
@@ -140,7 +161,7 @@ fn run_text<K: Sink>(
     match read(alloc, scenario) {
         Ok(plan) => {
             read_plans_can_be_printed(scenario, &plan);
-            write_output(alloc, settings.mode, settings, bytes, &plan, out)
+            write_output(makers, alloc, settings.mode, settings, bytes, &plan, out)
         }
         Err(ScenarioFault::Memory) => still(alloc, Ending::Memory),
         Err(fault) => still(alloc, Ending::Refused(fault)),
@@ -148,12 +169,14 @@ fn run_text<K: Sink>(
 }
 
 /// Reads the input and does what the mode does.
-fn run_input<S: Source, K: Sink>(
-    alloc: Global,
-    settings: &Settings,
-    input: &mut S,
-    out: &mut K,
-) -> Worked
+fn run_input<
+    S: Source,
+    K: Sink,
+    F: FnOnce(&Plan, &RunSettings, &mut K) -> Ran,
+    M: FnOnce(&Plan, &RunSettings, &mut MemSink) -> Ran,
+>(makers: Makers<F, M>, alloc: Global, settings: &Settings, input: &mut S, out: &mut K) -> Worked
+    requires output { Makes F.FnOnce (sight K.holds K.faults K.stalls) makers.to_output }
+    requires memory { Makes M.FnOnce (sight ⟦<MemSink as Sink>⟧.holds ⟦<MemSink as Sink>⟧.faults ⟦<MemSink as Sink>⟧.stalls) makers.to_memory }
     requires range { IsInRange settings.now.run }
     ensures printed { PrintedWhere true settings.now (S.held input.old) result.ending result.journal
         (K.holds out.old) (K.holds out.new) }
@@ -189,11 +212,17 @@ fn run_input<S: Source, K: Sink>(
     if taken.is_past {
         return still(alloc, Ending::InputTooLong);
     }
-    run_text(alloc, settings, bytes, scenario, out)
+    run_text(makers, alloc, settings, bytes, scenario, out)
 }
 
 /// Does what the mode does with the generated scenario.
-fn run_generated<K: Sink>(alloc: Global, settings: &Settings, out: &mut K) -> Worked
+fn run_generated<
+    K: Sink,
+    F: FnOnce(&Plan, &RunSettings, &mut K) -> Ran,
+    M: FnOnce(&Plan, &RunSettings, &mut MemSink) -> Ran,
+>(makers: Makers<F, M>, alloc: Global, settings: &Settings, out: &mut K) -> Worked
+    requires output { Makes F.FnOnce (sight K.holds K.faults K.stalls) makers.to_output }
+    requires memory { Makes M.FnOnce (sight ⟦<MemSink as Sink>⟧.holds ⟦<MemSink as Sink>⟧.faults ⟦<MemSink as Sink>⟧.stalls) makers.to_memory }
     requires range { IsInRange settings.now.run }
     ensures printed { PrintedWhere false settings.now None result.ending result.journal
         (K.holds out.old) (K.holds out.new) }
@@ -206,18 +235,20 @@ fn run_generated<K: Sink>(alloc: Global, settings: &Settings, out: &mut K) -> Wo
     ensures journal { (HasRun settings.now.mode → ⊥) → result.journal ≡ [] }
 {
     match scenario_of(alloc, settings.seed) {
-        Ok(plan) => write_output(alloc, settings.mode, settings, &[], &plan, out),
+        Ok(plan) => write_output(makers, alloc, settings.mode, settings, &[], &plan, out),
         Err(_) => still(alloc, Ending::Memory),
     }
 }
 
 /// Does what the mode does, with the input where the mode reads it.
-fn run_mode<S: Source, K: Sink>(
-    alloc: Global,
-    settings: &Settings,
-    input: &mut S,
-    out: &mut K,
-) -> Worked
+fn run_mode<
+    S: Source,
+    K: Sink,
+    F: FnOnce(&Plan, &RunSettings, &mut K) -> Ran,
+    M: FnOnce(&Plan, &RunSettings, &mut MemSink) -> Ran,
+>(makers: Makers<F, M>, alloc: Global, settings: &Settings, input: &mut S, out: &mut K) -> Worked
+    requires output { Makes F.FnOnce (sight K.holds K.faults K.stalls) makers.to_output }
+    requires memory { Makes M.FnOnce (sight ⟦<MemSink as Sink>⟧.holds ⟦<MemSink as Sink>⟧.faults ⟦<MemSink as Sink>⟧.stalls) makers.to_memory }
     requires range { IsInRange settings.now.run }
     ensures printed { PrintedOf settings.now (S.held input.old) result.ending result.journal
         (K.holds out.old) (K.holds out.new) }
@@ -247,9 +278,9 @@ fn run_mode<S: Source, K: Sink>(
     ensures journal { (HasRun settings.now.mode → ⊥) → result.journal ≡ [] }
 {
     if settings.mode.reads() {
-        return run_input(alloc, settings, input, out);
+        return run_input(makers, alloc, settings, input, out);
     }
-    run_generated(alloc, settings, out)
+    run_generated(makers, alloc, settings, out)
 }
 
 /// Offers the line of an ending and reports it.
@@ -259,8 +290,8 @@ fn report_of<E: Sink>(worked: Worked, err: &mut E) -> Report
     ensures journal { result.journal ≡ worked.journal }
     ensures silent { worked.ending ≡ Ending.Done → err.new ≡ err.old }
     ensures told { worked.ending ≢ Ending.Done → Offers
-        (record { holds = E.holds err.old; faults = E.faults err.old; stalls = E.stalls err.old })
-        (record { holds = E.holds err.new; faults = E.faults err.new; stalls = E.stalls err.new })
+        (sight E.holds E.faults E.stalls err.old)
+        (sight E.holds E.faults E.stalls err.new)
         (error_line worked.ending) }
 {
     offer(err, &worked.ending);
@@ -271,39 +302,49 @@ fn report_of<E: Sink>(worked: Worked, err: &mut E) -> Report
     }
 }
 
-/// Does what the words ask for.
-fn serve<S: Source, K: Sink, E: Sink>(
+/// Does what the words ask for, where there are threads or none.
+fn serve<
+    S: Source,
+    K: Sink,
+    E: Sink,
+    F: FnOnce(&Plan, &RunSettings, &mut K) -> Ran,
+    M: FnOnce(&Plan, &RunSettings, &mut MemSink) -> Ran,
+>(
+    makers: Makers<F, M>,
+    threads: bool,
     alloc: Global,
     words: &Vec<String>,
     input: &mut S,
     out: &mut K,
     err: &mut E,
 ) -> Report
+    requires output { Makes F.FnOnce (sight K.holds K.faults K.stalls) makers.to_output }
+    requires memory { Makes M.FnOnce (sight ⟦<MemSink as Sink>⟧.holds ⟦<MemSink as Sink>⟧.faults ⟦<MemSink as Sink>⟧.stalls) makers.to_memory }
     ensures status { result.status ≡ status_of result.ending }
     ensures served { IsServed (record {
-      settings = settings_of (map string_bytes words.now.items);
+      settings = settings_served threads (settings_of (map string_bytes words.now.items));
       ending = result.ending;
       journal = result.journal;
       input = record { held = S.held input.old; faults = S.faults input.old };
       input_after = record { held = S.held input.new; faults = S.faults input.new };
-      out = record { holds = K.holds out.old; faults = K.faults out.old; stalls = K.stalls out.old };
-      out_after = record { holds = K.holds out.new; faults = K.faults out.new; stalls = K.stalls out.new };
-      err = record { holds = E.holds err.old; faults = E.faults err.old; stalls = E.stalls err.old };
-      err_after = record { holds = E.holds err.new; faults = E.faults err.new; stalls = E.stalls err.new };
+      out = sight K.holds K.faults K.stalls out.old;
+      out_after = sight K.holds K.faults K.stalls out.new;
+      err = sight E.holds E.faults E.stalls err.old;
+      err_after = sight E.holds E.faults E.stalls err.new;
     }) }
     ensures nothing { WritesNothing result.ending → out.new ≡ out.old }
-    ensures unfit { IfSome (settings_of (map string_bytes words.now.items))
+    ensures unfit { IfSome (settings_served threads (settings_of (map string_bytes words.now.items)))
         (λ s. IfSome (given s.mode (S.held input.old)) (λ b. IsUnfit s.mode b → out.new ≡ out.old)) }
-    ensures untouched { settings_of (map string_bytes words.now.items) ≡ None →
+    ensures untouched { settings_served threads (settings_of (map string_bytes words.now.items)) ≡ None →
         (input.new ≡ input.old) × (out.new ≡ out.old) }
     ensures silent { result.ending ≡ Ending.Done → err.new ≡ err.old }
 {
-    let settings = match pm_words::read(alloc, words) {
+    let settings = match read_served(alloc, words, threads) {
         Ok(settings) => settings,
         Err(WordsFault::Words) => return report_of(still(alloc, Ending::Words), err),
         Err(WordsFault::Memory) => return report_of(still(alloc, Ending::Memory), err),
     };
-    let worked = run_mode(alloc, &settings, input, out);
+    let worked = run_mode(makers, alloc, &settings, input, out);
     report_of(worked, err)
 }
 
@@ -311,9 +352,11 @@ fn serve<S: Source, K: Sink, E: Sink>(
 /// the sequential run of the scenario that `input` holds; `run`, for the optimistic run of it, which prints the same
 /// trace; `check`, for how many parts it has; `upgrade`, for the scenario in the present form; `place`, for where its
 /// variables are best kept; `cut`, for the scenario whose run is the rest of its run from a time on; or `demo`, for the
-/// optimistic run of a generated scenario, in one line, for which the input isn't read. A run's trace is written to `out`, each line by itself, for as many
-/// steps, in modes `run` and `demo` deliveries, as the option `budget` says; at each ending but `Done` the line of that ending is
-/// offered to `err`. Nothing asks `gate` and no thread is started: any number of workers is served on this thread.
+/// optimistic run of a generated scenario, in one line, for which the input isn't read. A run's trace is written to `out`,
+/// each line by itself, for as many steps, in modes `run` and `demo` deliveries, as the option `budget` says; at each ending
+/// but `Done` the line of that ending is offered to `err`. Modes `run` and `demo` are made by as many workers as the option
+/// `workers` says, each in a thread of its own, which asks `gate` before each of its turns and is waited for; with none, and in
+/// each other mode, no thread is started.
 pub fn top<R: Threads + Sync, S: Source, K: Sink, E: Sink, G: Gate + Sync>(
     rt: &R,
     alloc: Global,
@@ -330,10 +373,10 @@ pub fn top<R: Threads + Sync, S: Source, K: Sink, E: Sink, G: Gate + Sync>(
       journal = result.journal;
       input = record { held = S.held input.old; faults = S.faults input.old };
       input_after = record { held = S.held input.new; faults = S.faults input.new };
-      out = record { holds = K.holds out.old; faults = K.faults out.old; stalls = K.stalls out.old };
-      out_after = record { holds = K.holds out.new; faults = K.faults out.new; stalls = K.stalls out.new };
-      err = record { holds = E.holds err.old; faults = E.faults err.old; stalls = E.stalls err.old };
-      err_after = record { holds = E.holds err.new; faults = E.faults err.new; stalls = E.stalls err.new };
+      out = sight K.holds K.faults K.stalls out.old;
+      out_after = sight K.holds K.faults K.stalls out.new;
+      err = sight E.holds E.faults E.stalls err.old;
+      err_after = sight E.holds E.faults E.stalls err.new;
     }) }
     ensures nothing { WritesNothing result.ending → out.new ≡ out.old }
     ensures unfit { IfSome (settings_of (map string_bytes words.now.items))
@@ -342,12 +385,20 @@ pub fn top<R: Threads + Sync, S: Source, K: Sink, E: Sink, G: Gate + Sync>(
         (input.new ≡ input.old) × (out.new ≡ out.old) }
     ensures silent { result.ending ≡ Ending.Done → err.new ≡ err.old }
 {
-    let _ = rt;
-    let _ = gate;
-    serve(alloc, words, input, out, err)
+    let to_output = |plan: &Plan, settings: &RunSettings, out: &mut K|
+        requires { IsSync R.row × IsSync G.row × IsValid plan.now × IsInRange settings.now }
+    { run(Some(Hands { rt, gate }), alloc, plan, settings, out) };
+    let to_memory = |plan: &Plan, settings: &RunSettings, out: &mut MemSink|
+        requires { IsSync R.row × IsSync G.row × IsValid plan.now × IsInRange settings.now }
+    { run(Some(Hands { rt, gate }), alloc, plan, settings, out) };
+    let makers = Makers {
+        to_output,
+        to_memory,
+    };
+    serve(makers, true, alloc, words, input, out, err)
 }
 
-/// The same on this thread alone.
+/// The same on this thread alone: words that ask for a run by workers are refused, where `top` would start threads.
 pub fn plain<S: Source, K: Sink, E: Sink>(
     alloc: Global,
     words: &Vec<String>,
@@ -357,22 +408,32 @@ pub fn plain<S: Source, K: Sink, E: Sink>(
 ) -> Report
     ensures status { result.status ≡ status_of result.ending }
     ensures served { IsServed (record {
-      settings = settings_of (map string_bytes words.now.items);
+      settings = settings_alone (settings_of (map string_bytes words.now.items));
       ending = result.ending;
       journal = result.journal;
       input = record { held = S.held input.old; faults = S.faults input.old };
       input_after = record { held = S.held input.new; faults = S.faults input.new };
-      out = record { holds = K.holds out.old; faults = K.faults out.old; stalls = K.stalls out.old };
-      out_after = record { holds = K.holds out.new; faults = K.faults out.new; stalls = K.stalls out.new };
-      err = record { holds = E.holds err.old; faults = E.faults err.old; stalls = E.stalls err.old };
-      err_after = record { holds = E.holds err.new; faults = E.faults err.new; stalls = E.stalls err.new };
+      out = sight K.holds K.faults K.stalls out.old;
+      out_after = sight K.holds K.faults K.stalls out.new;
+      err = sight E.holds E.faults E.stalls err.old;
+      err_after = sight E.holds E.faults E.stalls err.new;
     }) }
     ensures nothing { WritesNothing result.ending → out.new ≡ out.old }
-    ensures unfit { IfSome (settings_of (map string_bytes words.now.items))
+    ensures unfit { IfSome (settings_alone (settings_of (map string_bytes words.now.items)))
         (λ s. IfSome (given s.mode (S.held input.old)) (λ b. IsUnfit s.mode b → out.new ≡ out.old)) }
-    ensures untouched { settings_of (map string_bytes words.now.items) ≡ None →
+    ensures untouched { settings_alone (settings_of (map string_bytes words.now.items)) ≡ None →
         (input.new ≡ input.old) × (out.new ≡ out.old) }
     ensures silent { result.ending ≡ Ending.Done → err.new ≡ err.old }
 {
-    serve(alloc, words, input, out, err)
+    let to_output = |plan: &Plan, settings: &RunSettings, out: &mut K| run_plain(
+        alloc, plan, settings, out,
+    );
+    let to_memory = |plan: &Plan, settings: &RunSettings, out: &mut MemSink| run_plain(
+        alloc, plan, settings, out,
+    );
+    let makers = Makers {
+        to_output,
+        to_memory,
+    };
+    serve(makers, false, alloc, words, input, out, err)
 }

@@ -1,6 +1,6 @@
 ghost use Rattle.std.specs.Prelude.{◌≡◌, ◌++◌, ◌∷◌, [], codes, decimal};
 ghost use Rattle.pm_top.specs.Refusals.{kind_word, part_text, plan_reason, refusal, rule_reason, rule_text, shown, shown_byte};
-ghost use Rattle.pm_top.specs.Speech.{Speaks};
+ghost use Rattle.pm_top.specs.Speech.{Speaks, sight};
 
 use itoa::Buffer;
 use pm_base::Name;
@@ -11,15 +11,15 @@ use pm_scenario::ScenarioFault;
 
 /// Says a text, without taking memory, as all of these do.
 pub fn say<E: Sink>(err: &mut E, text: &str) -> Result<(), Failed>
-    ensures { Speaks result (record { holds = E.holds err.old; faults = E.faults err.old; stalls = E.stalls err.old })
-        (record { holds = E.holds err.new; faults = E.faults err.new; stalls = E.stalls err.new }) text.now }
+    ensures { Speaks result (sight E.holds E.faults E.stalls err.old)
+        (sight E.holds E.faults E.stalls err.new) text.now }
 {
     write_whole(err, text.as_bytes())
 }
 
 fn say_number<E: Sink>(err: &mut E, n: u64) -> Result<(), Failed>
-    ensures { Speaks result (record { holds = E.holds err.old; faults = E.faults err.old; stalls = E.stalls err.old })
-        (record { holds = E.holds err.new; faults = E.faults err.new; stalls = E.stalls err.new }) (decimal n) }
+    ensures { Speaks result (sight E.holds E.faults E.stalls err.old)
+        (sight E.holds E.faults E.stalls err.new) (decimal n) }
 {
     let mut buffer = Buffer::new();
     say(err, buffer.format(n))
@@ -27,8 +27,8 @@ fn say_number<E: Sink>(err: &mut E, n: u64) -> Result<(), Failed>
 
 /// One text and then another.
 fn say_both<E: Sink>(err: &mut E, first: &str, second: &str) -> Result<(), Failed>
-    ensures { Speaks result (record { holds = E.holds err.old; faults = E.faults err.old; stalls = E.stalls err.old })
-        (record { holds = E.holds err.new; faults = E.faults err.new; stalls = E.stalls err.new }) (first.now ++ second.now) }
+    ensures { Speaks result (sight E.holds E.faults E.stalls err.old)
+        (sight E.holds E.faults E.stalls err.new) (first.now ++ second.now) }
 {
     say(err, first)?;
     say(err, second)
@@ -36,16 +36,16 @@ fn say_both<E: Sink>(err: &mut E, first: &str, second: &str) -> Result<(), Faile
 
 /// A text and then a number.
 fn say_before<E: Sink>(err: &mut E, text: &str, n: u64) -> Result<(), Failed>
-    ensures { Speaks result (record { holds = E.holds err.old; faults = E.faults err.old; stalls = E.stalls err.old })
-        (record { holds = E.holds err.new; faults = E.faults err.new; stalls = E.stalls err.new }) (text.now ++ decimal n) }
+    ensures { Speaks result (sight E.holds E.faults E.stalls err.old)
+        (sight E.holds E.faults E.stalls err.new) (text.now ++ decimal n) }
 {
     say(err, text)?;
     say_number(err, n)
 }
 
 fn say_line<E: Sink>(err: &mut E, line: u64, reason: &str) -> Result<(), Failed>
-    ensures { Speaks result (record { holds = E.holds err.old; faults = E.faults err.old; stalls = E.stalls err.old })
-        (record { holds = E.holds err.new; faults = E.faults err.new; stalls = E.stalls err.new })
+    ensures { Speaks result (sight E.holds E.faults E.stalls err.old)
+        (sight E.holds E.faults E.stalls err.new)
         ((codes ": line " ++ decimal line) ++ (codes ": " ++ reason.now)) }
 {
     say_before(err, ": line ", line)?;
@@ -54,8 +54,8 @@ fn say_line<E: Sink>(err: &mut E, line: u64, reason: &str) -> Result<(), Failed>
 
 /// `rule of agent A: line L: REASON`
 fn say_rule_text<E: Sink>(err: &mut E, agent: u32, line: u64, reason: &str) -> Result<(), Failed>
-    ensures { Speaks result (record { holds = E.holds err.old; faults = E.faults err.old; stalls = E.stalls err.old })
-        (record { holds = E.holds err.new; faults = E.faults err.new; stalls = E.stalls err.new })
+    ensures { Speaks result (sight E.holds E.faults E.stalls err.old)
+        (sight E.holds E.faults E.stalls err.new)
         (rule_text agent line reason.now) }
 {
     say_before(err, "rule of agent ", agent as u64)?;
@@ -63,8 +63,8 @@ fn say_rule_text<E: Sink>(err: &mut E, agent: u32, line: u64, reason: &str) -> R
 }
 
 fn say_rule<E: Sink>(err: &mut E, agent: u32, fault: &RuleFault) -> Result<(), Failed>
-    ensures { Speaks result (record { holds = E.holds err.old; faults = E.faults err.old; stalls = E.stalls err.old })
-        (record { holds = E.holds err.new; faults = E.faults err.new; stalls = E.stalls err.new })
+    ensures { Speaks result (sight E.holds E.faults E.stalls err.old)
+        (sight E.holds E.faults E.stalls err.new)
         (rule_reason agent fault.now) }
 {
     match fault {
@@ -93,8 +93,8 @@ fn kind_word(kind: Kind) -> &'static str
 }
 
 fn say_index<E: Sink>(err: &mut E, index: u32, reason: &str) -> Result<(), Failed>
-    ensures { Speaks result (record { holds = E.holds err.old; faults = E.faults err.old; stalls = E.stalls err.old })
-        (record { holds = E.holds err.new; faults = E.faults err.new; stalls = E.stalls err.new })
+    ensures { Speaks result (sight E.holds E.faults E.stalls err.old)
+        (sight E.holds E.faults E.stalls err.new)
         (decimal index ++ (codes ": " ++ reason.now)) }
 {
     say_number(err, index as u64)?;
@@ -103,8 +103,8 @@ fn say_index<E: Sink>(err: &mut E, index: u32, reason: &str) -> Result<(), Faile
 
 /// `KIND I: REASON`
 fn say_part<E: Sink>(err: &mut E, kind: Kind, index: u32, reason: &str) -> Result<(), Failed>
-    ensures { Speaks result (record { holds = E.holds err.old; faults = E.faults err.old; stalls = E.stalls err.old })
-        (record { holds = E.holds err.new; faults = E.faults err.new; stalls = E.stalls err.new })
+    ensures { Speaks result (sight E.holds E.faults E.stalls err.old)
+        (sight E.holds E.faults E.stalls err.new)
         (part_text kind index reason.now) }
 {
     say_both(err, kind_word(kind), " ")?;
@@ -112,8 +112,8 @@ fn say_part<E: Sink>(err: &mut E, kind: Kind, index: u32, reason: &str) -> Resul
 }
 
 fn say_limit<E: Sink>(err: &mut E, kind: Kind) -> Result<(), Failed>
-    ensures { Speaks result (record { holds = E.holds err.old; faults = E.faults err.old; stalls = E.stalls err.old })
-        (record { holds = E.holds err.new; faults = E.faults err.new; stalls = E.stalls err.new })
+    ensures { Speaks result (sight E.holds E.faults E.stalls err.old)
+        (sight E.holds E.faults E.stalls err.new)
         (codes "limit of " ++ (kind_word kind ++ codes "\n")) }
 {
     say(err, "limit of ")?;
@@ -121,8 +121,8 @@ fn say_limit<E: Sink>(err: &mut E, kind: Kind) -> Result<(), Failed>
 }
 
 fn say_plan<E: Sink>(err: &mut E, fault: &PlanFault) -> Result<(), Failed>
-    ensures { Speaks result (record { holds = E.holds err.old; faults = E.faults err.old; stalls = E.stalls err.old })
-        (record { holds = E.holds err.new; faults = E.faults err.new; stalls = E.stalls err.new })
+    ensures { Speaks result (sight E.holds E.faults E.stalls err.old)
+        (sight E.holds E.faults E.stalls err.new)
         (plan_reason fault.now) }
 {
     match fault {
@@ -147,8 +147,8 @@ fn shown_byte(b: u8) -> u8
 
 /// A key's bytes, one at a time: a control character shows as `?`.
 fn say_key<E: Sink>(err: &mut E, key: &Name) -> Result<(), Failed>
-    ensures { Speaks result (record { holds = E.holds err.old; faults = E.faults err.old; stalls = E.stalls err.old })
-        (record { holds = E.holds err.new; faults = E.faults err.new; stalls = E.stalls err.new }) (shown key.now) }
+    ensures { Speaks result (sight E.holds E.faults E.stalls err.old)
+        (sight E.holds E.faults E.stalls err.new) (shown key.now) }
 {
     for b in key.as_str().as_bytes() {
         say_byte(err, *b)?;
@@ -157,8 +157,8 @@ fn say_key<E: Sink>(err: &mut E, key: &Name) -> Result<(), Failed>
 }
 
 fn say_byte<E: Sink>(err: &mut E, b: u8) -> Result<(), Failed>
-    ensures { Speaks result (record { holds = E.holds err.old; faults = E.faults err.old; stalls = E.stalls err.old })
-        (record { holds = E.holds err.new; faults = E.faults err.new; stalls = E.stalls err.new })
+    ensures { Speaks result (sight E.holds E.faults E.stalls err.old)
+        (sight E.holds E.faults E.stalls err.new)
         (shown_byte b ∷ []) }
 {
     let piece = [shown_byte(b)];
@@ -166,8 +166,8 @@ fn say_byte<E: Sink>(err: &mut E, b: u8) -> Result<(), Failed>
 }
 
 fn say_of_key<E: Sink>(err: &mut E, key: &Name, reason: &str) -> Result<(), Failed>
-    ensures { Speaks result (record { holds = E.holds err.old; faults = E.faults err.old; stalls = E.stalls err.old })
-        (record { holds = E.holds err.new; faults = E.faults err.new; stalls = E.stalls err.new })
+    ensures { Speaks result (sight E.holds E.faults E.stalls err.old)
+        (sight E.holds E.faults E.stalls err.new)
         (shown key.now ++ reason.now) }
 {
     say_key(err, key)?;
@@ -175,8 +175,8 @@ fn say_of_key<E: Sink>(err: &mut E, key: &Name, reason: &str) -> Result<(), Fail
 }
 
 fn say_reason<E: Sink>(err: &mut E, fault: &ScenarioFault) -> Result<(), Failed>
-    ensures { Speaks result (record { holds = E.holds err.old; faults = E.faults err.old; stalls = E.stalls err.old })
-        (record { holds = E.holds err.new; faults = E.faults err.new; stalls = E.stalls err.new })
+    ensures { Speaks result (sight E.holds E.faults E.stalls err.old)
+        (sight E.holds E.faults E.stalls err.new)
         (refusal fault.now) }
 {
     match fault {
@@ -193,8 +193,8 @@ fn say_reason<E: Sink>(err: &mut E, fault: &ScenarioFault) -> Result<(), Failed>
 
 /// Why a scenario is refused, in one line.
 pub fn say_refusal<E: Sink>(err: &mut E, fault: &ScenarioFault) -> Result<(), Failed>
-    ensures { Speaks result (record { holds = E.holds err.old; faults = E.faults err.old; stalls = E.stalls err.old })
-        (record { holds = E.holds err.new; faults = E.faults err.new; stalls = E.stalls err.new })
+    ensures { Speaks result (sight E.holds E.faults E.stalls err.old)
+        (sight E.holds E.faults E.stalls err.new)
         (codes "pdesmas: scenario: " ++ refusal fault.now) }
 {
     say(err, "pdesmas: scenario: ")?;
@@ -203,8 +203,8 @@ pub fn say_refusal<E: Sink>(err: &mut E, fault: &ScenarioFault) -> Result<(), Fa
 
 /// That this agent makes no further step, in one line.
 pub fn say_retired<E: Sink>(err: &mut E, agent: u32) -> Result<(), Failed>
-    ensures { Speaks result (record { holds = E.holds err.old; faults = E.faults err.old; stalls = E.stalls err.old })
-        (record { holds = E.holds err.new; faults = E.faults err.new; stalls = E.stalls err.new })
+    ensures { Speaks result (sight E.holds E.faults E.stalls err.old)
+        (sight E.holds E.faults E.stalls err.new)
         ((codes "pdesmas: cut: agent " ++ decimal agent) ++ codes " is retired\n") }
 {
     say_before(err, "pdesmas: cut: agent ", agent as u64)?;
@@ -213,8 +213,8 @@ pub fn say_retired<E: Sink>(err: &mut E, agent: u32) -> Result<(), Failed>
 
 /// That this line of a journal may not stand there, in one line.
 pub fn say_illegal<E: Sink>(err: &mut E, line: u64) -> Result<(), Failed>
-    ensures { Speaks result (record { holds = E.holds err.old; faults = E.faults err.old; stalls = E.stalls err.old })
-        (record { holds = E.holds err.new; faults = E.faults err.new; stalls = E.stalls err.new })
+    ensures { Speaks result (sight E.holds E.faults E.stalls err.old)
+        (sight E.holds E.faults E.stalls err.new)
         ((codes "pdesmas: journal: line " ++ decimal line) ++ codes "\n") }
 {
     say_before(err, "pdesmas: journal: line ", line)?;

@@ -3,6 +3,7 @@ use Rattle.pm_top.proofs.Complete.{completes, input-limits, limits, refuses, wit
 use Rattle.pm_top.proofs.Stopped.{each, firsts, kept, memory-served, seconds, words-served}
 use Rattle.pm_top.specs.Headline.{given}
 use Rattle.pm_top.specs.Readings.{IsUnfit}
+use Rattle.pm_top.specs.Serving.{settings_served}
 use Rattle.pm_words.specs.Words.{reads, settings_of}
 use Rattle.pm_words.specs.declared.settings.Settings.{Settings}
 use Rattle.pm_top.proofs.program.serve.Goals as goal
@@ -12,7 +13,7 @@ some-none s e = cc
 
 pub returns-in-Err-Words-clause-served : goal.returns-in-Err-Words-clause-served
 returns-in-Err-Words-clause-served g c =
-    let none : settings_of (map string_bytes c.args.words.now.items) ≡ None = c.in-Err-Words.ensures.refused c.in-Err-Words.field-0-is in
+    let none : settings_served c.args.threads (settings_of (map string_bytes c.args.words.now.items)) ≡ None = c.in-Err-Words.ensures.refused c.in-Err-Words.field-0-is in
     rw (c.report_of.ensures.ending, c.report_of.ensures.journal, c.still.ensures.ending, c.still.ensures.journal, none)
     (words-served _ _ _ _ (rw c.still.ensures.ending at c.report_of.ensures.told))
 
@@ -31,7 +32,7 @@ returns-clause-served g c =
     let e = c.run_mode-worked.result.ending in
     let s = c.in-Ok.settings in
     let held = g.S.Source.held c.args.input.now in
-    let named : settings_of (map string_bytes c.args.words.now.items) ≡ Some s = c.in-Ok.ensures.ok in
+    let named : settings_served c.args.threads (settings_of (map string_bytes c.args.words.now.items)) ≡ Some s = c.in-Ok.ensures.ok in
     let text = given s.mode held in
     let told : Told s.mode e text = record {
       words = run.words;
@@ -85,9 +86,9 @@ returns-clause-unfit g c =
 pub returns-in-Err-Words-clause-unfit : goal.returns-in-Err-Words-clause-unfit
 returns-in-Err-Words-clause-unfit g c =
     each (λ s. IfSome (given s.mode (g.S.Source.held c.args.input.now)) (λ b. IsUnfit s.mode b → c.args.out.now ≡ c.args.out.now))
-    (settings_of (map string_bytes c.args.words.now.items)) (λ s. kept (given s.mode (g.S.Source.held c.args.input.now)) (λ b unfit. refl))
+    (settings_served c.args.threads (settings_of (map string_bytes c.args.words.now.items))) (λ s. kept (given s.mode (g.S.Source.held c.args.input.now)) (λ b unfit. refl))
 
 pub returns-in-Err-Memory-clause-unfit : goal.returns-in-Err-Memory-clause-unfit
 returns-in-Err-Memory-clause-unfit g c =
     each (λ s. IfSome (given s.mode (g.S.Source.held c.args.input.now)) (λ b. IsUnfit s.mode b → c.args.out.now ≡ c.args.out.now))
-    (settings_of (map string_bytes c.args.words.now.items)) (λ s. kept (given s.mode (g.S.Source.held c.args.input.now)) (λ b unfit. refl))
+    (settings_served c.args.threads (settings_of (map string_bytes c.args.words.now.items))) (λ s. kept (given s.mode (g.S.Source.held c.args.input.now)) (λ b unfit. refl))
