@@ -14,3 +14,5 @@ mod rows;
 mod schedules;
 #[cfg(test)]
 mod tests;
+#[cfg(test)]
+mod threads;

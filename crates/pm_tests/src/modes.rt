@@ -8,13 +8,24 @@ pub type Call = (
     &'static str,
 );
 
+/// The line of the generated run with seed 7.
+pub const GENERATED: &str = "demo 7 steps 349 hits 3033 writes 284 sum 2459906775968860678\n";
+
 pub const MODES: &[Call] = &[
     (
         "a generated run",
-        &["demo", "--seed", "7", "--budget", "20000000"],
+        &[
+            "demo",
+            "--workers",
+            "0",
+            "--seed",
+            "7",
+            "--budget",
+            "20000000",
+        ],
         "",
         0,
-        "demo 7 steps 349 hits 3033 writes 284 sum 2459906775968860678\n",
+        GENERATED,
         "",
     ),
     (

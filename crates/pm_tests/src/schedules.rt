@@ -1,8 +1,11 @@
 //! Runs of the world whose deliveries are drawn.
-use crate::rows::FORAGERS;
+ghost use Rattle.pm_plan.specs.Plans.{IsValid};
+
+use crate::rows::short_foragers;
 use pm_base::{Entry, Line, List, Memory};
 use pm_core::World;
 use pm_plan::Plan;
+use pm_plan::laws::limits_are_kept;
 use pm_scenario::read;
 use pm_seq::Seq;
 use pm_trace::line;
@@ -48,7 +51,10 @@ fn add_lines(
 }
 
 /// The trace of the sequential run.
-fn sequential(alloc: Global, plan: &Plan) -> Result<Vec<u8>, Memory> {
+fn sequential(alloc: Global, plan: &Plan) -> Result<Vec<u8>, Memory>
+    requires { IsValid plan.now }
+{
+    limits_are_kept(plan);
     let mut text = Vec::new(alloc);
     let mut run = Seq::new(alloc, plan)?;
     for _ in 0..DRAWS {
@@ -87,7 +93,9 @@ fn deliver(alloc: Global, world: &mut World<'_>, draws: &mut Draws) -> Result<bo
 }
 
 /// What a run with drawn deliveries commits.
-fn drawn(alloc: Global, plan: &Plan, number: u64) -> Result<Vec<u8>, Memory> {
+fn drawn(alloc: Global, plan: &Plan, number: u64) -> Result<Vec<u8>, Memory>
+    requires { IsValid plan.now }
+{
     let mut text = Vec::new(alloc);
     let mut world = World::first(alloc, plan)?;
     let mut draws = Draws { state: number };
@@ -109,7 +117,7 @@ fn drawn(alloc: Global, plan: &Plan, number: u64) -> Result<Vec<u8>, Memory> {
 #[test]
 fn drawn_schedules(rt: HostRuntime) -> Result<(), Fail> {
     let alloc = rt.alloc();
-    let short = FORAGERS.replacen(alloc, "horizon = 200", "horizon = 5", 1)?;
+    let short = short_foragers(alloc)?;
     let bytes = short.as_bytes();
     assert!(rt; bytes.len() < 10_000);
     let plan = read(alloc, bytes).map_err(|_| AllocError)?;

@@ -11,9 +11,11 @@ use std::test::Fail;
 pub const COUNTER: &str =
     "version = 1\nhorizon = 2\n[[clp]]\nname = \"root\"\n[[class]]\nname = \"cell\"\n[[class.var]]\nname = \"c0\"\nat = \"root\"\n[[agent]]\nname = \"ant\"\nhome = \"root\"\nrule = \"\"\"\nread a = c0\nset c0 = (a.x + 1), 0\n\"\"\"\n";
 
-const TWO_LINES: &str = "0 ant [c0=0,0] c0:=1,0\n1 ant [c0=1,0] c0:=2,0\n";
+/// What the counter prints up to its second step.
+pub const TWO_LINES: &str = "0 ant [c0=0,0] c0:=1,0\n1 ant [c0=1,0] c0:=2,0\n";
 
-const TRACE: &str =
+/// The whole of it.
+pub const TRACE: &str =
     "0 ant [c0=0,0] c0:=1,0\n1 ant [c0=1,0] c0:=2,0\n2 ant [c0=2,0] c0:=3,0\nend 3\n";
 
 const THREE_LINES: &str =
@@ -27,11 +29,13 @@ const MEMORY: u8 = 6;
 
 const WORDS: &str = "pdesmas: the words are not understood\n";
 
-const SPENT: &str = "pdesmas: the budget is spent\n";
+/// The line of a budget that is spent.
+pub const SPENT: &str = "pdesmas: the budget is spent\n";
 
 const READ_FAULT: &str = "pdesmas: the input cannot be read\n";
 
-const WRITE_FAULT: &str = "pdesmas: the output cannot be written\n";
+/// The line of an output that failed.
+pub const WRITE_FAULT: &str = "pdesmas: the output cannot be written\n";
 
 /// A call of the counter over devices of these cues, and what it has to leave.
 struct Case {
@@ -116,7 +120,7 @@ const FIVES: &str =
 const WINDOWED: &str =
     "0 ant [c0=0,0] c0:=1,0\n1 ant [c0=1,0] c0:=2,0\n2 ant [c0=2,0] c0:=3,0\nend 3\n#j c 0 0\n#j d 1 1\n#j d 0 1\n#j d 1 0\n#j d 0 1\n#j c 1 0\n#j d 1 1\n#j d 0 1\n#j d 1 0\n#j d 0 1\n#j c 2 0\n#j d 1 1\n#j d 0 1\n#j d 1 0\n#j d 0 1\n#j c end\n";
 
-/// Optimistic runs: journals, budgets of deliveries, and devices that fail.
+/// Optimistic runs on one thread: journals, budgets of deliveries, and devices that fail.
 const RUNS: [Case; 12] = [
     Case {
         name: "an epoch of five",
@@ -141,7 +145,7 @@ const RUNS: [Case; 12] = [
     },
     Case {
         name: "no delivery",
-        words: &["run", "--budget", "0"],
+        words: &["run", "--workers", "0", "--budget", "0"],
         status: 3,
         written: "",
         told: SPENT,
@@ -149,7 +153,7 @@ const RUNS: [Case; 12] = [
     },
     Case {
         name: "a delivery too few",
-        words: &["run", "--budget", "11"],
+        words: &["run", "--workers", "0", "--budget", "11"],
         status: 3,
         written: TWO_LINES,
         told: SPENT,
@@ -157,12 +161,12 @@ const RUNS: [Case; 12] = [
     },
     Case {
         name: "as many deliveries as it takes",
-        words: &["run", "--budget", "12"],
+        words: &["run", "--workers", "0", "--budget", "12"],
         ..GOOD
     },
     Case {
         name: "the first put of a run fails",
-        words: &["run"],
+        words: &["run", "--workers", "0"],
         out: &[Cue::Fail],
         status: 5,
         written: "",
@@ -171,7 +175,7 @@ const RUNS: [Case; 12] = [
     },
     Case {
         name: "the second put of a run fails",
-        words: &["run"],
+        words: &["run", "--workers", "0"],
         out: &[Cue::All, Cue::Fail],
         status: 5,
         written: "0 ant [c0=0,0] c0:=1,0\n",
@@ -180,7 +184,7 @@ const RUNS: [Case; 12] = [
     },
     Case {
         name: "the end line of a run fails",
-        words: &["run"],
+        words: &["run", "--workers", "0"],
         out: &[Cue::All, Cue::All, Cue::All, Cue::Fail],
         status: 5,
         written: THREE_LINES,
@@ -189,7 +193,7 @@ const RUNS: [Case; 12] = [
     },
     Case {
         name: "nothing of a run's end line is taken",
-        words: &["run"],
+        words: &["run", "--workers", "0"],
         out: &[Cue::All, Cue::All, Cue::All, Cue::Take(0)],
         status: 5,
         written: THREE_LINES,
@@ -198,7 +202,7 @@ const RUNS: [Case; 12] = [
     },
     Case {
         name: "a part of a run's first line is taken",
-        words: &["run"],
+        words: &["run", "--workers", "0"],
         out: &[Cue::Take(5), Cue::Fail],
         status: 5,
         written: "0 ant",
@@ -207,14 +211,14 @@ const RUNS: [Case; 12] = [
     },
     Case {
         name: "a run, one byte at a time",
-        words: &["run"],
+        words: &["run", "--workers", "0"],
         input: &BYTES,
         out: &BYTES,
         ..GOOD
     },
     Case {
         name: "the first line of a journal fails",
-        words: &["run", "--journal"],
+        words: &["run", "--workers", "0", "--journal"],
         out: &[Cue::All, Cue::All, Cue::All, Cue::All, Cue::Fail],
         status: 5,
         told: WRITE_FAULT,
@@ -222,8 +226,8 @@ const RUNS: [Case; 12] = [
     },
 ];
 
-/// Words that are refused.
-const REFUSED_WORDS: [&[&str]; 20] = [
+/// Words that are refused where there are no threads: the last four want some.
+const REFUSED_WORDS: [&[&str]; 24] = [
     &[],
     &["fly"],
     &["seq", "seq"],
@@ -244,11 +248,16 @@ const REFUSED_WORDS: [&[&str]; 20] = [
     &["-h"],
     &["--version"],
     &["help"],
+    &["run"],
+    &["run", "--workers", "1"],
+    &["demo"],
+    &["demo", "--workers=64"],
 ];
 
 /// Words that ask for the whole trace.
-const SEQ_WORDS: [&[&str]; 7] = [
+const SEQ_WORDS: [&[&str]; 8] = [
     &["seq"],
+    &["seq", "--workers", "4"],
     &["--workers=2", "seq"],
     &["--", "seq"],
     &["seq", "--budget", "3"],
@@ -257,16 +266,23 @@ const SEQ_WORDS: [&[&str]; 7] = [
     &["--epoch=1", "--window=1", "seq", "--from", "0"],
 ];
 
-/// Words that ask for an optimistic run of it, which prints the same.
-const RUN_WORDS: [&[&str]; 5] = [
-    &["run"],
-    &["--workers=2", "run"],
-    &["run", "--epoch", "1"],
-    &["run", "--window", "50"],
-    &["--window=1", "run", "--seed=1", "--from", "0"],
+/// Words that ask for an optimistic run of it on one thread, which prints the same.
+const RUN_WORDS: [&[&str]; 4] = [
+    &["--workers=0", "run"],
+    &["run", "--workers=0", "--epoch", "1"],
+    &["run", "--workers=0", "--window", "50"],
+    &[
+        "--window=1",
+        "run",
+        "--workers=0",
+        "--seed=1",
+        "--from",
+        "0",
+    ],
 ];
 
-fn words_of(alloc: Global, words: &[&str]) -> Result<Vec<String>, AllocError> {
+/// The words, each as a text of its own.
+pub fn words_of(alloc: Global, words: &[&str]) -> Result<Vec<String>, AllocError> {
     let mut all = Vec::new(alloc);
     for word in words {
         all.push(String::from_str(alloc, word)?)?;
@@ -276,13 +292,14 @@ fn words_of(alloc: Global, words: &[&str]) -> Result<Vec<String>, AllocError> {
 
 /// Devices in memory: the scenario's text, and the cues of each.
 #[derive(Drop)]
-struct Devices {
-    input: MemSource,
-    out: MemSink,
-    err: MemSink,
+pub struct Devices {
+    pub input: MemSource,
+    pub out: MemSink,
+    pub err: MemSink,
 }
 
-fn devices_of(
+/// Devices of these cues over the scenario's text.
+pub fn devices_of(
     alloc: Global,
     text: &str,
     input: Vec<Cue>,
@@ -296,30 +313,46 @@ fn devices_of(
     })
 }
 
+/// Devices that never fail, over these bytes.
+pub fn good_devices(alloc: Global, input: Vec<u8>) -> Devices {
+    Devices {
+        input: MemSource::new(input, Vec::new(alloc)),
+        out: MemSink::new(alloc, Vec::new(alloc)),
+        err: MemSink::new(alloc, Vec::new(alloc)),
+    }
+}
+
 /// What a call left: its status, and what was written to the output and to the error output.
 #[derive(Drop)]
-struct Left {
-    status: u8,
-    out: MemSink,
-    err: MemSink,
+pub struct Left {
+    pub status: u8,
+    pub out: MemSink,
+    pub err: MemSink,
 }
 
 impl Left {
-    fn is(&self, status: u8, written: &str, told: &str) -> bool {
+    /// Whether it is this.
+    pub fn is(&self, status: u8, written: &str, told: &str) -> bool {
         let texts = self.out.bytes() == written.as_bytes() && self.err.bytes() == told.as_bytes();
         self.status == status && texts
+    }
+
+    /// Whether another call left the same.
+    pub fn is_like(&self, other: &Left) -> bool {
+        let texts = self.out.bytes() == other.out.bytes() && self.err.bytes() == other.err.bytes();
+        self.status == other.status && texts
     }
 }
 
 /// What a call left, unless memory ran out: in the call, or in a sink, whose own fault that is.
-fn left_of(status: u8, out: MemSink, err: MemSink) -> Result<Left, AllocError> {
+pub fn left_of(status: u8, out: MemSink, err: MemSink) -> Result<Left, AllocError> {
     if status == MEMORY || out.wants() > 0 || err.wants() > 0 {
         return Err(AllocError);
     }
     Ok(Left { status, out, err })
 }
 
-/// Calls the program with these words.
+/// Calls the program with these words, where there are no threads.
 fn run(alloc: Global, words: &[&str], devices: Devices) -> Result<Left, AllocError> {
     let words = words_of(alloc, words)?;
     let Devices {
@@ -333,16 +366,11 @@ fn run(alloc: Global, words: &[&str], devices: Devices) -> Result<Left, AllocErr
 
 /// The same with devices that never fail.
 fn run_bytes(alloc: Global, words: &[&str], input: Vec<u8>) -> Result<Left, AllocError> {
-    let devices = Devices {
-        input: MemSource::new(input, Vec::new(alloc)),
-        out: MemSink::new(alloc, Vec::new(alloc)),
-        err: MemSink::new(alloc, Vec::new(alloc)),
-    };
-    run(alloc, words, devices)
+    run(alloc, words, good_devices(alloc, input))
 }
 
 /// The same with a text.
-fn run_words(alloc: Global, words: &[&str], text: &str) -> Result<Left, AllocError> {
+pub fn run_words(alloc: Global, words: &[&str], text: &str) -> Result<Left, AllocError> {
     run_bytes(alloc, words, Vec::from_slice(alloc, text.as_bytes())?)
 }
 
@@ -572,7 +600,7 @@ fn scenarios_that_are_written_and_their_runs(rt: HostRuntime) -> Result<(), Fail
 fn runs_print_the_sequential_trace(rt: HostRuntime) -> Result<(), Fail> {
     for (name, mode, text, status, written, told) in ROWS {
         if *mode == "seq" {
-            let left = run_text(rt.alloc(), "run", text)?;
+            let left = run_words(rt.alloc(), &["run", "--workers", "0"], text)?;
             assert!(rt; left.is(*status, written, told), "{name}");
         }
     }
