@@ -11,12 +11,13 @@ const PARTS: u64 = 64;
 
 /// The next steps of how many agents an epoch lets through. Agents of one time that meet at one variable roll each other
 /// back; where too many of them run at once, a rollback sets off more than one other and the run doesn't end: so it begins
-/// with few. It grows by a quarter while a step takes no more deliveries than it took at best, and is halved where it
-/// takes half as many again. The figures were chosen by measuring.
+/// with few. It grows by a quarter where a step took as few deliveries as it ever took, or a sixteenth more, which says
+/// that next to nothing was rolled back; it is halved where a step took half as many again. The figures were chosen by
+/// measuring: a looser one let a storm begin before it was noticed.
 #[derive(Clone, Copy, Debug)]
 pub struct Ahead {
     agents: usize,
-    // The fewest deliveries that a step took in an epoch, in parts; none were made before the first.
+    // The fewest deliveries that a step ever took in an epoch, in parts; none were made before the first.
     cheapest: Option<u64>,
     // The bound of the last epoch, where its quota cut it off: the steps that it let through come to their end first.
     unfinished: Option<Line>,
@@ -48,7 +49,7 @@ impl Ahead {
         let now = cost as u128;
         if now * 2 > best * 3 {
             self.agents = (self.agents / 2).max(FEWEST);
-        } else if now * 8 <= best * 9 {
+        } else if now * 16 <= best * 17 {
             self.agents = self.agents.saturating_add(self.agents / 4).min(MOST);
         }
     }
@@ -66,9 +67,8 @@ impl Ahead {
             return;
         }
         let cost = made.saturating_mul(PARTS) / steps;
-        // The best is forgotten slowly: what a step takes changes as a run goes on.
         let cheapest = match self.cheapest {
-            Some(best) => best.saturating_add(best / 128 + 1).min(cost),
+            Some(best) => best.min(cost),
             None => cost,
         };
         self.cheapest = Some(cheapest);

@@ -23,12 +23,19 @@ use pm_io::Sink;
 use pm_plan::Plan;
 use std::alloc::Global;
 
-// The bound of the next epoch. Want of memory leaves it without one.
+// The bound of the next epoch: just above the moment of the last agent that it lets through, or of the last that is to
+// act where there are fewer. An agent that acts alone needs none, and want of memory leaves the epoch without one.
 fn bound_of<E: Engine>(alloc: Global, ahead: &Ahead, engine: &E) -> Option<Line> {
-    match ahead.unfinished() {
-        Some(line) => Some(line),
-        None => engine.ahead(alloc, ahead.agents()).unwrap_or(None),
+    if let Some(line) = ahead.unfinished() {
+        return Some(line);
     }
+    let agents = ahead.agents();
+    for fewer in 0..agents.saturating_sub(1) {
+        if let Some(line) = engine.ahead(alloc, agents.saturating_sub(fewer)).ok()? {
+            return Some(line);
+        }
+    }
+    None
 }
 
 // Stages, until nothing is left to be delivered or the budget is spent.

@@ -349,9 +349,10 @@ pub fn short_foragers(alloc: Global) -> Result<String, AllocError> {
     FORAGERS.replacen(alloc, "horizon = 200", "horizon = 5", 1)
 }
 
-/// Three agents that count up one variable, at the same times. They are few, so that all of them run ahead at once.
+/// Three agents that count up one variable at the same times. They are so few that the first epoch of a run has no
+/// bound, and what is taken back then grows fast with the horizon.
 pub const RIVALS: &str =
-    "version = 1\nhorizon = 30\n[[clp]]\nname = \"root\"\n[[clp]]\nname = \"left\"\nparent = \"root\"\n[[class]]\nname = \"cell\"\n[[class.var]]\nname = \"c0\"\nat = \"root\"\n[[agent]]\nname = \"ant\"\nhome = \"root\"\nrule = \"\"\"\nread a = c0\nset c0 = (a.x + 1), 0\n\"\"\"\n[[agent]]\nname = \"bee\"\nhome = \"left\"\nrule = \"\"\"\nread a = c0\nset c0 = (a.x + 1), 0\n\"\"\"\n[[agent]]\nname = \"cat\"\nhome = \"left\"\nrule = \"\"\"\nread a = c0\nset c0 = (a.x + 1), 0\n\"\"\"\n";
+    "version = 1\nhorizon = 4\n[[clp]]\nname = \"root\"\n[[clp]]\nname = \"left\"\nparent = \"root\"\n[[class]]\nname = \"cell\"\n[[class.var]]\nname = \"c0\"\nat = \"root\"\n[[agent]]\nname = \"ant\"\nhome = \"root\"\nrule = \"\"\"\nread a = c0\nset c0 = (a.x + 1), 0\n\"\"\"\n[[agent]]\nname = \"bee\"\nhome = \"left\"\nrule = \"\"\"\nread a = c0\nset c0 = (a.x + 1), 0\n\"\"\"\n[[agent]]\nname = \"cat\"\nhome = \"left\"\nrule = \"\"\"\nread a = c0\nset c0 = (a.x + 1), 0\n\"\"\"\n";
 
 /// The lines of the whole one's trace with numbers 1 and 9 to 13, counted from 1.
 pub const FORAGER_LINES: &[(usize, &str)] = &[

@@ -207,8 +207,8 @@ impl<'a, R: Threads + Sync + Copy, G: Gate + Sync> Crew<'a, R, G> {
         }
     }
 
-    /// The line just above the moment of the agent that is to act as the `count`-th, counted from 1: none where fewer are
-    /// to act. No theorem needs it.
+    /// The bound of an epoch that lets the next steps of so many agents through; none where it needs none. No theorem needs
+    /// it.
     pub fn ahead(&self, alloc: Global, count: usize) -> Result<Option<Line>, Memory> {
         ahead_of(alloc, self.cells.as_slice(), count)
     }

@@ -39,8 +39,17 @@ fn keep_least(least: &mut Vec<Stamp>, stamp: Stamp, count: usize) -> Result<(), 
     Ok(())
 }
 
-/// The line just above the moment of the agent that is to act as the `count`-th, counted from 1: none where fewer are to
-/// act.
+// From so many on an epoch may let more than one step of an agent through: that they came to be so many says that agents
+// seldom meet.
+const FREE: usize = 16;
+
+// Whether an epoch that lets so many steps through needs no bound, where so many agents are to act.
+fn is_free(count: usize, acting: usize) -> bool {
+    acting < 2 || (count >= FREE && count / 4 >= acting)
+}
+
+/// The line just above the moment of the agent that is to act as the `count`-th, counted from 1, or as the last where there
+/// are fewer: none where one acts alone, and where there are four times as many steps to let through.
 pub fn ahead_of(alloc: Global, cells: &[Cell<'_>], count: usize) -> Result<Option<Line>, Memory> {
     let mut least = Vec::with_capacity(alloc, count)?;
     for cell in cells {
@@ -48,7 +57,7 @@ pub fn ahead_of(alloc: Global, cells: &[Cell<'_>], count: usize) -> Result<Optio
             keep_least(&mut least, stamp, count)?;
         }
     }
-    if least.len() < count {
+    if is_free(count, least.len()) {
         return Ok(None);
     }
     Ok(

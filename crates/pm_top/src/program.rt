@@ -354,9 +354,9 @@ fn serve<
 /// variables are best kept; `cut`, for the scenario whose run is the rest of its run from a time on; or `demo`, for the
 /// optimistic run of a generated scenario, in one line, for which the input isn't read. A run's trace is written to `out`,
 /// each line by itself, for as many steps, in modes `run` and `demo` deliveries, as the option `budget` says; at each ending
-/// but `Done` the line of that ending is offered to `err`. Modes `run` and `demo` are made by as many workers as the option
-/// `workers` says, each in a thread of its own, which asks `gate` before each of its turns and is waited for; with none, and in
-/// each other mode, no thread is started.
+/// but `Done` the line of that ending is offered to `err`. Modes `run` and `demo` are made by at most as many workers as the
+/// option `workers` says, which ask `gate` before each of their turns: the first is the calling thread, each other has a
+/// thread of its own and is waited for. With no worker, and in each other mode, nothing asks `gate`.
 pub fn top<R: Threads + Sync, S: Source, K: Sink, E: Sink, G: Gate + Sync>(
     rt: &R,
     alloc: Global,
