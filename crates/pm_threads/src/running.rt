@@ -1,5 +1,5 @@
 // A run on threads.
-ghost use Rattle.std.specs.Prelude.{◌≡◌, ◌≢◌, ◌⊎◌, ◌≤◌, [], IfSome, List as Seq};
+ghost use Rattle.std.specs.Prelude.{◌≡◌, ◌≢◌, ◌⊎◌, ◌≤◌, [], false, IfSome, List as Seq};
 ghost use Rattle.std.specs.Io.KnownBytes.{Appends};
 ghost use Rattle.pm_base.specs.declared.stamp.Line.TheVariants.{End};
 ghost use Rattle.pm_io.specs.Causes.{AppendsPart, AppendsPrefix, Rose};
@@ -21,15 +21,28 @@ use pm_plan::Plan;
 use std::alloc::Global;
 use std::thread::Threads;
 
-// The bound of the next epoch. Want of memory leaves it without one.
+// Whether a line is below another.
+fn is_below(line: Line, other: Line) -> bool {
+    match line {
+        Line::At(stamp) => other.is_past(stamp),
+        Line::End => false,
+    }
+}
+
+// The bound of the next epoch: the last one again while something below it is left, since the steps that it let through
+// come to their end before others begin (an epoch ends where the share of one cell is used up, too). Want of memory leaves
+// it without one.
 fn bound_of<R: Threads + Sync + Copy, G: Gate + Sync>(
     alloc: Global,
     ahead: &Ahead,
+    last: Option<Line>,
     crew: &Crew<'_, R, G>,
-) -> Option<Line> {
-    match ahead.unfinished() {
-        Some(line) => Some(line),
-        None => crew.ahead(alloc, ahead.agents()).unwrap_or(None),
+) -> Option<Line>
+    requires { crew.now.spoilt ≡ false }
+{
+    match last {
+        Some(line) if is_below(crew.least(), line) => Some(line),
+        _ => crew.ahead(alloc, ahead.agents()).unwrap_or(None),
     }
 }
 
@@ -65,13 +78,14 @@ fn stages<R: Threads + Sync + Copy, G: Gate + Sync, K: Sink>(
 {
     let mut left = settings.budget;
     let mut ahead = Ahead::new();
+    let mut last = None;
     while left > 0 && !crew.is_over() {
-        let bound = bound_of(alloc, &ahead, crew);
+        let bound = bound_of(alloc, &ahead, last, crew);
         let steps = counts.steps;
         match stage(alloc, plan, settings, left, bound, crew, counts, out) {
             Staged::More(made) => {
                 left -= made;
-                ahead.went(bound, made, settings.epoch);
+                last = bound;
                 ahead.learn(made, counts.steps.saturating_sub(steps));
             }
             Staged::WriteFault => return Outcome::WriteFault,
