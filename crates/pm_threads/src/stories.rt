@@ -39,17 +39,9 @@ fn keep_least(least: &mut Vec<Stamp>, stamp: Stamp, count: usize) -> Result<(), 
     Ok(())
 }
 
-// From so many on an epoch may let more than one step of an agent through: that they came to be so many says that agents
-// seldom meet.
-const FREE: usize = 16;
-
-// Whether an epoch that lets so many steps through needs no bound, where so many agents are to act.
-fn is_free(count: usize, acting: usize) -> bool {
-    acting < 2 || (count >= FREE && count / 4 >= acting)
-}
-
 /// The line just above the moment of the agent that is to act as the `count`-th, counted from 1, or as the last where there
-/// are fewer: none where one acts alone, and where there are four times as many steps to let through.
+/// are fewer: none where one acts alone. So an agent begins one step in an epoch, whatever `count` is: where agents meet,
+/// each step more that they are ahead of one another multiplies what a late write takes back.
 pub fn ahead_of(alloc: Global, cells: &[Cell<'_>], count: usize) -> Result<Option<Line>, Memory> {
     let mut least = Vec::with_capacity(alloc, count)?;
     for cell in cells {
@@ -57,7 +49,7 @@ pub fn ahead_of(alloc: Global, cells: &[Cell<'_>], count: usize) -> Result<Optio
             keep_least(&mut least, stamp, count)?;
         }
     }
-    if is_free(count, least.len()) {
+    if least.len() < 2 {
         return Ok(None);
     }
     Ok(
