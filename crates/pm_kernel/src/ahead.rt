@@ -11,9 +11,9 @@ const PARTS: u64 = 64;
 
 /// The next steps of how many agents an epoch lets through. Agents of one time that meet at one variable roll each other
 /// back; where too many of them run at once, a rollback sets off more than one other and the run doesn't end: so it begins
-/// with few. It grows by a quarter where a step took as few deliveries as it ever took, or a sixteenth more, which says
-/// that next to nothing was rolled back; it is halved where a step took half as many again. The figures were chosen by
-/// measuring: a looser one let a storm begin before it was noticed.
+/// with few. It grows by a quarter where a step took as few deliveries as it ever took, or a sixteenth more; it is halved
+/// where a step took half as many again. A step that costs the same each time is no sign that nothing is rolled back, so
+/// who asks keeps a bound however many these are.
 #[derive(Clone, Copy, Debug)]
 pub struct Ahead {
     agents: usize,
