@@ -102,6 +102,7 @@ impl<'a> Alp<'a> {
         ensures spoilt { self.old.spoilt ≡ true → is_err result ≡ true }
         ensures stays { self.old.spoilt ≡ true → self.new ≡ self.old }
         ensures silent { self.old.spoilt ≡ true → out.new ≡ out.old }
+        ensures counted { self.old.spoilt ≡ false → self.new.made ≡ self.old.made + 1 }
         ensures grown { HasGrown out.old out.new }
     {
         if self.spoilt {
