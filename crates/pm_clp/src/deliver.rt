@@ -57,7 +57,8 @@ impl Clp {
 
     /// Delivers a message from that process that `takes` admits: the process is what the message makes of it, and what
     /// it sends is appended to `out`, in order. After `Memory` the process is spoilt, and `out` may have grown: from
-    /// then on it answers `Memory`, and appends nothing.
+    /// then on it answers `Memory`, and appends nothing. A delivery is counted whatever it answers, unless the process
+    /// was spoilt before.
     pub fn deliver(
         &mut self,
         alloc: Global,
