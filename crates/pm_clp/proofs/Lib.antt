@@ -10,3 +10,4 @@ pub mod Sets
 pub mod Slots
 pub mod Counting
 pub mod Watching
+pub mod Telling

@@ -46,6 +46,19 @@ pub record IsClp (ports : List ℕ) (layout : Layout) (kept : Kept) (routing : R
   pub turns : kept.limit ≤ 2 ^ 32 + made
   pub few : made ≤ 20000000
 
+-- what only a delivery's begin and its want of memory change: its place never, one more delivery, and that it is spoilt
+pub record Frame : Type 0 where
+  pub hub : Hub
+  pub made : ℕ
+  pub spoilt : Bool
+
+abbrev pub frame_of : ClpView → Frame
+frame_of c = record { hub = c.hub; made = c.made; spoilt = c.spoilt }
+
+-- its place, how many deliveries were made and whether it is spoilt stay
+abbrev pub Stays : ClpView → ClpView → Type 0
+Stays was now = frame_of now ≡ frame_of was
+
 -- the process did this: its state is what that leaves, all else stays, and what it sends was appended in order
 pub record Did (was now : ClpView) (before after : List Sent) (f : ClpState → ClpSends) : Type 0 where
   pub state : now ≡ record was { clp = (f was.clp).clp }

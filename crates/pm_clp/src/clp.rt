@@ -11,7 +11,8 @@ ghost use Rattle.pm_clp.specs.Clps.{to_agent, watch_all};
 ghost use Rattle.pm_periods.specs.Periods.{periods_from};
 ghost use Rattle.pm_routes.specs.Routings.{place_of, way_at};
 ghost use Rattle.pm_routes.specs.declared.way.Way.TheVariants as way;
-ghost use Rattle.pm_clp.specs.Views.{Did, DidRaise, give_to, leave, others, sent_if, sent_off};
+ghost use Rattle.pm_clp.specs.Views.{Did, DidRaise, Stays, give_to, leave, others, sent_if, sent_off};
+ghost use Rattle.pm_queries.specs.Queries.{HasGrown};
 
 use crate::records::Records;
 use pm_base::{
@@ -60,7 +61,8 @@ impl Model for Clp {
 
 // A message to each of these reads' agents, in order.
 fn send_gives(to_agents: &List<u32>, gives: &[GiveRow], out: &mut List<Sent>) -> Result<(), Memory>
-    ensures { OnOk result (out.new ≡ out.old ++ map (give_to to_agents.now) gives.now) }
+    ensures sent { OnOk result (out.new ≡ out.old ++ map (give_to to_agents.now) gives.now) }
+    ensures grown { HasGrown out.old out.new }
 {
     for row in gives {
         send_give(to_agents, *row, out)?;
@@ -69,7 +71,8 @@ fn send_gives(to_agents: &List<u32>, gives: &[GiveRow], out: &mut List<Sent>) ->
 }
 
 fn send_give(to_agents: &List<u32>, row: GiveRow, out: &mut List<Sent>) -> Result<(), Memory>
-    ensures { OnOk result (out.new ≡ out.old ++ give_to to_agents.now row ∷ []) }
+    ensures sent { OnOk result (out.new ≡ out.old ++ give_to to_agents.now row ∷ []) }
+    ensures grown { HasGrown out.old out.new }
 {
     let to = match to_agents.get(row.num.agent as usize) {
         Some(to) => *to,
@@ -91,8 +94,10 @@ impl Clp {
         out: &mut List<Sent>,
     ) -> Result<(), Memory>
         requires { self.old.limit < 2 ^ 32 + self.old.made }
-        ensures { OnOk result (DidRaise self.old self.new out.old out.new
+        ensures did { OnOk result (DidRaise self.old self.new out.old out.new
             (at_record self.old.hub var (take_put var row))) }
+        ensures stays { Stays self.old self.new }
+        ensures grown { HasGrown out.old out.new }
     {
         let gives = self.records.put(alloc, var, row)?;
         send_gives(&self.to_agents, gives.as_slice(), out)
@@ -107,8 +112,10 @@ impl Clp {
         out: &mut List<Sent>,
     ) -> Result<(), Memory>
         requires { self.old.limit < 2 ^ 32 + self.old.made }
-        ensures { OnOk result (DidRaise self.old self.new out.old out.new
+        ensures did { OnOk result (DidRaise self.old self.new out.old out.new
             (at_record self.old.hub var (take_cut var row))) }
+        ensures stays { Stays self.old self.new }
+        ensures grown { HasGrown out.old out.new }
     {
         let gives = self.records.cut(alloc, var, row)?;
         send_gives(&self.to_agents, gives.as_slice(), out)
@@ -124,8 +131,10 @@ impl Clp {
         window: Window,
         out: &mut List<Sent>,
     ) -> Result<(), Memory>
-        ensures { OnOk result (Did self.old self.new out.old out.new
+        ensures did { OnOk result (Did self.old self.new out.old out.new
             (at_record self.old.hub var (take_watch var num stamp window))) }
+        ensures stays { Stays self.old self.new }
+        ensures grown { HasGrown out.old out.new }
     {
         match self.records.watch(alloc, var, num, stamp, window)? {
             Some(row) => send_give(&self.to_agents, row, out),
@@ -145,8 +154,10 @@ impl Clp {
         out: &mut List<Sent>,
     ) -> Result<(), Memory>
         requires { is_inverted window ≡ false }
-        ensures { OnOk result (Did self.old self.new out.old out.new
+        ensures did { OnOk result (Did self.old self.new out.old out.new
             (tell_one self.old.hub class from until window port)) }
+        ensures stays { Stays self.old self.new }
+        ensures grown { HasGrown out.old out.new }
     {
         let place = self.place_of(port);
         let when = Interval {
@@ -204,8 +215,10 @@ impl Clp {
         out: &mut List<Sent>,
     ) -> Result<(), Memory>
         requires { is_inverted window ≡ false }
-        ensures { OnOk result (Did self.old self.new out.old out.new
+        ensures did { OnOk result (Did self.old self.new out.old out.new
             (tell self.old.hub class from until window (others skip self.old.hub.ports))) }
+        ensures stays { Stays self.old self.new }
+        ensures grown { HasGrown out.old out.new }
     {
         for at in 0..self.ports.len() {
             let port = self.port_at(at);
@@ -224,8 +237,10 @@ impl Clp {
         period: Period,
         out: &mut List<Sent>,
     ) -> Result<(), Memory>
-        ensures { OnOk result (Did self.old self.new out.old out.new
+        ensures did { OnOk result (Did self.old self.new out.old out.new
             (tell_from self.old.hub class period.when.from period)) }
+        ensures stays { Stays self.old self.new }
+        ensures grown { HasGrown out.old out.new }
     {
         match period.when.from {
             None => Ok(()),
@@ -244,8 +259,10 @@ impl Clp {
         periods: &[Period],
         out: &mut List<Sent>,
     ) -> Result<(), Memory>
-        ensures { OnOk result (Did self.old self.new out.old out.new
+        ensures did { OnOk result (Did self.old self.new out.old out.new
             (tell_periods self.old.hub class periods.now)) }
+        ensures stays { Stays self.old self.new }
+        ensures grown { HasGrown out.old out.new }
     {
         for period in periods {
             self.tell_period(alloc, class, *period, out)?;
@@ -262,7 +279,9 @@ impl Clp {
         out: &mut List<Sent>,
     ) -> Result<(), Memory>
         requires { var < var_count self.old.hub.classes }
-        ensures { OnOk result (Did self.old self.new out.old out.new (telling self.old.hub var from)) }
+        ensures did { OnOk result (Did self.old self.new out.old out.new (telling self.old.hub var from)) }
+        ensures stays { Stays self.old self.new }
+        ensures grown { HasGrown out.old out.new }
     {
         let class = self.layout.class_of(var);
         let periods = self.records.periods(alloc, var, Some(from))?;
@@ -280,7 +299,9 @@ impl Clp {
     ) -> Result<(), Memory>
         requires exists { var < var_count self.old.hub.classes }
         requires here { way_at self.old.clp.routing var ≡ Some way.Here }
-        ensures { OnOk result (Did self.old self.new out.old out.new (sent_off self.old.hub var port held.parts)) }
+        ensures did { OnOk result (Did self.old self.new out.old out.new (sent_off self.old.hub var port held.parts)) }
+        ensures stays { Stays self.old self.new }
+        ensures grown { HasGrown out.old out.new }
     {
         let class = self.layout.class_of(var);
         let place = self.place_of(port);
@@ -307,8 +328,10 @@ impl Clp {
         out: &mut List<Sent>,
     ) -> Result<(), Memory>
         requires { row.first + row.count < 2 ^ 32 }
-        ensures { OnOk result (Did self.old self.new out.old out.new
+        ensures did { OnOk result (Did self.old self.new out.old out.new
             (watch_all self.old.hub num stamp window row.first row.count)) }
+        ensures stays { Stays self.old self.new }
+        ensures grown { HasGrown out.old out.new }
     {
         let end = row.first + row.count;
         let mut at = self.next_here(row.first, end);
@@ -342,8 +365,10 @@ impl Clp {
 
     // A hit goes on towards its agent.
     pub(crate) fn on_give(&mut self, row: GiveRow, out: &mut List<Sent>) -> Result<(), Memory>
-        ensures { OnOk result (Did self.old self.new out.old out.new
+        ensures did { OnOk result (Did self.old self.new out.old out.new
             (λ s. record { clp = s; sent = to_agent self.old.hub row ∷ [] })) }
+        ensures stays { Stays self.old self.new }
+        ensures grown { HasGrown out.old out.new }
     {
         send_give(&self.to_agents, row, out)
     }
@@ -358,9 +383,10 @@ impl Clp {
         window: Window,
     ) -> Result<(), Memory>
         requires { is_inverted window ≡ false }
-        ensures { OnOk result (self.new ≡ record self.old {
+        ensures did { OnOk result (self.new ≡ record self.old {
           clp = grow_bound self.old.hub port class when window self.old.clp;
         }) }
+        ensures stays { Stays self.old self.new }
     {
         let place = self.place_of(port);
         self.bound.grow(alloc, place, class, when, window)?;
@@ -369,7 +395,9 @@ impl Clp {
 
     // The queries of the class that came from elsewhere catch up at the port.
     fn catch_up(&mut self, port: u32, class: u32, out: &mut List<Sent>) -> Result<(), Memory>
-        ensures { OnOk result (Did self.old self.new out.old out.new (catch_up self.old.hub port class)) }
+        ensures did { OnOk result (Did self.old self.new out.old out.new (catch_up self.old.hub port class)) }
+        ensures stays { Stays self.old self.new }
+        ensures grown { HasGrown out.old out.new }
     {
         let place = self.place_of(port);
         self.queries.catch_up(port, class, &self.bound, place, out)
@@ -386,7 +414,9 @@ impl Clp {
     ) -> Result<(), Memory>
         requires exists { var < var_count self.old.hub.classes }
         requires here { way_at self.old.clp.routing var ≡ Some way.Here }
-        ensures { OnOk result (Did self.old self.new out.old out.new (leave self.old.hub var port)) }
+        ensures did { OnOk result (Did self.old self.new out.old out.new (leave self.old.hub var port)) }
+        ensures stays { Stays self.old self.new }
+        ensures grown { HasGrown out.old out.new }
     {
         match self.records.take(var) {
             None => Ok(()),
@@ -409,7 +439,9 @@ impl Clp {
     ) -> Result<(), Memory>
         requires exists { var < var_count self.old.hub.classes }
         requires here { way_at self.old.clp.routing var ≡ Some way.Here }
-        ensures { OnOk result (Did self.old self.new out.old out.new (counting self.old.hub var from)) }
+        ensures did { OnOk result (Did self.old self.new out.old out.new (counting self.old.hub var from)) }
+        ensures stays { Stays self.old self.new }
+        ensures grown { HasGrown out.old out.new }
     {
         match self.routes.count(var, from) {
             None => Ok(()),
@@ -424,7 +456,9 @@ impl Clp {
         num: Num,
         out: &mut List<Sent>,
     ) -> Result<(), Memory>
-        ensures { OnOk result (Did self.old self.new out.old out.new (after_finish from num)) }
+        ensures did { OnOk result (Did self.old self.new out.old out.new (after_finish from num)) }
+        ensures stays { Stays self.old self.new }
+        ensures grown { HasGrown out.old out.new }
     {
         match self.queries.finish(num, from) {
             None => Ok(()),
@@ -445,8 +479,10 @@ impl Clp {
         out: &mut List<Sent>,
     ) -> Result<(), Memory>
         requires { is_inverted window ≡ false }
-        ensures { OnOk result (Did self.old self.new out.old out.new
+        ensures did { OnOk result (Did self.old self.new out.old out.new
             (on_grow self.old.hub port class from until window)) }
+        ensures stays { Stays self.old self.new }
+        ensures grown { HasGrown out.old out.new }
     {
         let when = Interval {
             from: Some(from),
@@ -477,7 +513,8 @@ impl Clp {
 }
 
 fn push_if(is_sent: bool, to: u32, message: Message, out: &mut List<Sent>) -> Result<(), Memory>
-    ensures { OnOk result (out.new ≡ out.old ++ sent_if is_sent to message) }
+    ensures sent { OnOk result (out.new ≡ out.old ++ sent_if is_sent to message) }
+    ensures grown { HasGrown out.old out.new }
 {
     if is_sent {
         out.push(Sent { to, message })

@@ -2,7 +2,8 @@
 ghost use Rattle.std.specs.Prelude.{◌≡◌, ◌<◌, ◌+◌, ◌^◌, ◌++◌, false, true, is_err, OnOk};
 ghost use Rattle.pm_clp.specs.Clps.{clp_after};
 ghost use Rattle.pm_clp.specs.Takes.{fits, takes};
-ghost use Rattle.pm_clp.specs.Views.{DidAny};
+ghost use Rattle.pm_clp.specs.Views.{DidAny, Stays};
+ghost use Rattle.pm_queries.specs.Queries.{HasGrown};
 
 use crate::clp::Clp;
 use pm_base::{CutRow, List, Memory, PutRow, Query};
@@ -21,7 +22,9 @@ impl Clp {
     ) -> Result<(), Memory>
         requires fits { fits self.old.hub self.old.clp from message ≡ true }
         requires turns { self.old.limit < 2 ^ 32 + self.old.made }
-        ensures { OnOk result (DidAny self.old self.new out.old out.new (clp_after self.old.hub from message)) }
+        ensures did { OnOk result (DidAny self.old self.new out.old out.new (clp_after self.old.hub from message)) }
+        ensures stays { Stays self.old self.new }
+        ensures grown { HasGrown out.old out.new }
     {
         match message {
             Message::Wake { .. } => Ok(()),
@@ -54,7 +57,8 @@ impl Clp {
 
     /// Delivers a message from that process that `takes` admits: the process is what the message makes of it, and what
     /// it sends is appended to `out`, in order. After `Memory` the process is spoilt, and `out` may have grown: from
-    /// then on it answers `Memory`, and appends nothing.
+    /// then on it answers `Memory`, and appends nothing. A delivery is counted whatever it answers, unless the process
+    /// was spoilt before.
     pub fn deliver(
         &mut self,
         alloc: Global,
@@ -65,8 +69,10 @@ impl Clp {
         requires { self.old.spoilt ≡ false → takes self.old.hub self.old.made self.old.clp from message ≡ true }
         ensures state { OnOk result (self.new.clp ≡ (clp_after self.old.hub from message self.old.clp).clp) }
         ensures sent { OnOk result (out.new ≡ out.old ++ (clp_after self.old.hub from message self.old.clp).sent) }
-        ensures hub { OnOk result (self.new.hub ≡ self.old.hub) }
+        ensures hub { self.new.hub ≡ self.old.hub }
         ensures made { OnOk result (self.new.made ≡ self.old.made + 1) }
+        ensures counted { self.old.spoilt ≡ false → self.new.made ≡ self.old.made + 1 }
+        ensures grown { HasGrown out.old out.new }
         ensures well { OnOk result (self.old.spoilt ≡ false) }
         ensures spoilt { self.new.spoilt ≡ is_err result }
         ensures stays { self.old.spoilt ≡ true → (self.new ≡ self.old) × (out.new ≡ out.old) }

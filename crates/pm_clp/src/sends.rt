@@ -6,10 +6,10 @@ ghost use Rattle.pm_clp.specs.Clps.{Hub, and_then, at_record, class_at, forwards
 ghost use Rattle.pm_clp.specs.Clps.{on_put};
 ghost use Rattle.pm_clp.specs.Clps.{queries_watch, registered, take_cut, take_put, take_watch, telling};
 ghost use Rattle.pm_clp.specs.Kept.{TurnsUpTo};
-ghost use Rattle.pm_clp.specs.Views.{Did, DidAny, DidRaise, asked_at, watch_at};
+ghost use Rattle.pm_clp.specs.Views.{Did, DidAny, DidRaise, Stays, asked_at, watch_at};
 ghost use Rattle.pm_message.specs.declared.Message.TheVariants as message;
 ghost use Rattle.pm_periods.specs.Records.{settled};
-ghost use Rattle.pm_queries.specs.Queries.{add_reg, class_queries, has_reg};
+ghost use Rattle.pm_queries.specs.Queries.{HasGrown, add_reg, class_queries, has_reg};
 ghost use Rattle.pm_routes.specs.Routings.{way_at};
 ghost use Rattle.pm_routes.specs.declared.way.Way.TheVariants as way;
 
@@ -43,8 +43,10 @@ impl Clp {
     ) -> Result<(), Memory>
         requires exists { var < var_count self.old.hub.classes }
         requires here { way_at self.old.clp.routing var ≡ Some way.Here }
-        ensures { OnOk result (Did self.old self.new out.old out.new
+        ensures did { OnOk result (Did self.old self.new out.old out.new
             (on_ask self.old.hub from (message.Ask num stamp (query.One var)) num stamp (query.One var))) }
+        ensures stays { Stays self.old self.new }
+        ensures grown { HasGrown out.old out.new }
     {
         self.record_watch(alloc, var, num, stamp, Window::whole(), out)?;
         self.counting(alloc, var, from, out)
@@ -62,8 +64,10 @@ impl Clp {
         out: &mut List<Sent>,
     ) -> Result<(), Memory>
         requires { var < var_count self.old.hub.classes }
-        ensures { OnOk result (Did self.old self.new out.old out.new
+        ensures did { OnOk result (Did self.old self.new out.old out.new
             (on_ask self.old.hub from (message.Ask num stamp (query.One var)) num stamp (query.One var))) }
+        ensures stays { Stays self.old self.new }
+        ensures grown { HasGrown out.old out.new }
     {
         match self.way(var) {
             Way::Port(to) => {
@@ -87,8 +91,10 @@ impl Clp {
     ) -> Result<(), Memory>
         requires exists { var < var_count self.old.hub.classes }
         requires turns { self.old.limit < 2 ^ 32 + self.old.made }
-        ensures { OnOk result (DidRaise self.old self.new out.old out.new (λ s. and_then
+        ensures did { OnOk result (DidRaise self.old self.new out.old out.new (λ s. and_then
             (at_record self.old.hub var (take_put var row) s) (telling self.old.hub var row.stamp))) }
+        ensures stays { Stays self.old self.new }
+        ensures grown { HasGrown out.old out.new }
     {
         self.record_put(alloc, var, row, out)?;
         self.telling(alloc, var, row.stamp, out)
@@ -106,8 +112,10 @@ impl Clp {
         requires exists { var < var_count self.old.hub.classes }
         requires here { way_at self.old.clp.routing var ≡ Some way.Here }
         requires turns { self.old.limit < 2 ^ 32 + self.old.made }
-        ensures { OnOk result (DidAny self.old self.new out.old out.new
+        ensures did { OnOk result (DidAny self.old self.new out.old out.new
             (on_put self.old.hub from (message.Put row.num row.stamp var row.change) var row)) }
+        ensures stays { Stays self.old self.new }
+        ensures grown { HasGrown out.old out.new }
     {
         self.put_told(alloc, var, row, out)?;
         self.counting(alloc, var, from, out)
@@ -125,8 +133,10 @@ impl Clp {
     ) -> Result<(), Memory>
         requires exists { var < var_count self.old.hub.classes }
         requires turns { self.old.limit < 2 ^ 32 + self.old.made }
-        ensures { OnOk result (DidAny self.old self.new out.old out.new
+        ensures did { OnOk result (DidAny self.old self.new out.old out.new
             (on_put self.old.hub from (message.Put row.num row.stamp var row.change) var row)) }
+        ensures stays { Stays self.old self.new }
+        ensures grown { HasGrown out.old out.new }
     {
         match self.way(var) {
             Way::Port(to) => out.push(Sent {
@@ -153,8 +163,10 @@ impl Clp {
         requires exists { var < var_count self.old.hub.classes }
         requires here { way_at self.old.clp.routing var ≡ Some way.Here }
         requires turns { self.old.limit < 2 ^ 32 + self.old.made }
-        ensures { OnOk result (DidAny self.old self.new out.old out.new
+        ensures did { OnOk result (DidAny self.old self.new out.old out.new
             (on_cut self.old.hub (message.Cut row.num row.stamp var) var row)) }
+        ensures stays { Stays self.old self.new }
+        ensures grown { HasGrown out.old out.new }
     {
         self.record_cut(alloc, var, row, out)?;
         self.telling(alloc, var, row.stamp, out)
@@ -171,8 +183,10 @@ impl Clp {
     ) -> Result<(), Memory>
         requires exists { var < var_count self.old.hub.classes }
         requires turns { self.old.limit < 2 ^ 32 + self.old.made }
-        ensures { OnOk result (DidAny self.old self.new out.old out.new
+        ensures did { OnOk result (DidAny self.old self.new out.old out.new
             (on_cut self.old.hub (message.Cut row.num row.stamp var) var row)) }
+        ensures stays { Stays self.old self.new }
+        ensures grown { HasGrown out.old out.new }
     {
         match self.way(var) {
             Way::Port(to) => out.push(Sent {
@@ -207,9 +221,10 @@ impl Clp {
     // The query is one of those registered.
     fn add_query(&mut self, alloc: Global, row: Registered) -> Result<(), Memory>
         requires { has_reg row.num self.old.clp.queries ≡ false }
-        ensures { OnOk result (self.new ≡ record self.old {
+        ensures did { OnOk result (self.new ≡ record self.old {
           clp = record self.old.clp { queries = add_reg row self.old.clp.queries };
         }) }
+        ensures stays { Stays self.old self.new }
     {
         self.queries.register(alloc, row)
     }
@@ -226,8 +241,10 @@ impl Clp {
         out: &mut List<Sent>,
     ) -> Result<(), Memory>
         requires { has_reg num self.old.clp.queries ≡ false }
-        ensures { OnOk result (Did self.old self.new out.old out.new
+        ensures did { OnOk result (Did self.old self.new out.old out.new
             (registered self.old.hub from num stamp class window)) }
+        ensures stays { Stays self.old self.new }
+        ensures grown { HasGrown out.old out.new }
     {
         let waits = self.next_ports(alloc, from, class, stamp, window)?;
         let sent = copy_of(alloc, &waits)?;
@@ -256,8 +273,10 @@ impl Clp {
         window: Window,
         out: &mut List<Sent>,
     ) -> Result<(), Memory>
-        ensures { OnOk result (Did self.old self.new out.old out.new (on_ask self.old.hub from
+        ensures did { OnOk result (Did self.old self.new out.old out.new (on_ask self.old.hub from
             (message.Ask num stamp (query.Class class window)) num stamp (query.Class class window))) }
+        ensures stays { Stays self.old self.new }
+        ensures grown { HasGrown out.old out.new }
     {
         if self.knows(num) {
             return Ok(());
@@ -282,9 +301,10 @@ impl Clp {
         requires exists { var < var_count self.old.hub.classes }
         requires away { way_at self.old.clp.routing var ≡ Some way.Here → ⊥ }
         requires turns { TurnsUpTo (2 ^ 32) parts.now }
-        ensures { OnOk result (self.new ≡ record self.old {
+        ensures did { OnOk result (self.new ≡ record self.old {
           clp = installed self.old.hub from var (settled parts.now) self.old.clp;
         }) }
+        ensures stays { Stays self.old self.new }
     {
         let held = VarRecord::from_parts(alloc, var, parts)?;
         let class = self.class_of(var);
@@ -321,8 +341,10 @@ impl Clp {
         out: &mut List<Sent>,
     ) -> Result<(), Memory>
         requires { at < length (class_queries class self.old.clp.queries) }
-        ensures { OnOk result (Did self.old self.new out.old out.new
+        ensures did { OnOk result (Did self.old self.new out.old out.new
             (watch_at self.old.hub var (slice_get (class_queries class self.old.clp.queries) at))) }
+        ensures stays { Stays self.old self.new }
+        ensures grown { HasGrown out.old out.new }
     {
         let row = self.query_at(class, at);
         let num = row.num;
@@ -334,8 +356,10 @@ impl Clp {
     // The variable's record takes the registered queries of its class, in order.
     fn watch_queries(&mut self, alloc: Global, var: u32, out: &mut List<Sent>) -> Result<(), Memory>
         requires { var < var_count self.old.hub.classes }
-        ensures { OnOk result (Did self.old self.new out.old out.new
+        ensures did { OnOk result (Did self.old self.new out.old out.new
             (queries_watch self.old.hub var self.old.clp.queries)) }
+        ensures stays { Stays self.old self.new }
+        ensures grown { HasGrown out.old out.new }
     {
         let class = self.class_of(var);
         for at in 0..self.query_count(class) {
@@ -357,7 +381,9 @@ impl Clp {
         requires exists { var < var_count self.old.hub.classes }
         requires away { way_at self.old.clp.routing var ≡ Some way.Here → ⊥ }
         requires turns { TurnsUpTo (2 ^ 32) parts.now }
-        ensures { OnOk result (Did self.old self.new out.old out.new (on_move self.old.hub from var parts.now)) }
+        ensures did { OnOk result (Did self.old self.new out.old out.new (on_move self.old.hub from var parts.now)) }
+        ensures stays { Stays self.old self.new }
+        ensures grown { HasGrown out.old out.new }
     {
         self.install(alloc, from, var, parts)?;
         self.watch_queries(alloc, var, out)
@@ -366,7 +392,8 @@ impl Clp {
 
 // The query goes on to the ports that it waits for; where there are none, Finish goes back.
 fn forward(row: &Registered, out: &mut List<Sent>) -> Result<(), Memory>
-    ensures { (h : Hub) → OnOk result (out.new ≡ out.old ++ forwards h row.now.from row.now row.now.waits) }
+    ensures sent { (h : Hub) → OnOk result (out.new ≡ out.old ++ forwards h row.now.from row.now row.now.waits) }
+    ensures grown { HasGrown out.old out.new }
 {
     if row.waits.len() == 0 {
         return out.push(Sent {
@@ -382,7 +409,8 @@ fn forward(row: &Registered, out: &mut List<Sent>) -> Result<(), Memory>
 
 // To each of the ports that it waits for, in order.
 fn forward_each(row: &Registered, out: &mut List<Sent>) -> Result<(), Memory>
-    ensures { OnOk result (out.new ≡ out.old ++ map (asked_at row.now) row.now.waits) }
+    ensures sent { OnOk result (out.new ≡ out.old ++ map (asked_at row.now) row.now.waits) }
+    ensures grown { HasGrown out.old out.new }
 {
     let ports = row.waits.as_slice();
     for port in ports {

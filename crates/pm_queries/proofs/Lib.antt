@@ -8,3 +8,4 @@ pub mod Calls
 pub mod Registers
 pub mod Kept
 pub mod Counts
+pub mod Grown

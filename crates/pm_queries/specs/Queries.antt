@@ -1,5 +1,5 @@
 -- The class queries that a communication process has registered, and what it still owes each of them.
-use Rattle.std.specs.Prelude.{ℕ, ◌==◌, Bool, true, false, not, ◌&&◌, ◌||◌, if◌then◌else◌}
+use Rattle.std.specs.Prelude.{ℕ, ◌≡◌, ◌==◌, Bool, true, false, not, ◌&&◌, ◌||◌, if◌then◌else◌}
 use Rattle.std.specs.Prelude.{List, [], ◌∷◌, ◌++◌, map, filter}
 use Rattle.pm_base.specs.Stamps.{is_below, num_eq}
 use Rattle.pm_base.specs.declared.stamp.Line.{Line}
@@ -90,3 +90,7 @@ asks_at d rs = map (λ (r : Registered). record { to = d; message = ask_of r }) 
 -- the queries that are not below the line
 abbrev pub not_below : Line → List Registered → List Registered
 not_below l rs = filter (λ (r : Registered). not (is_below r.stamp l)) rs
+
+-- more messages were sent: what was there stays, before them
+abbrev pub HasGrown : List Sent → List Sent → Type 0
+HasGrown old new = (more : List Sent) × (new ≡ old ++ more)

@@ -5,7 +5,7 @@ ghost use Rattle.pm_base.specs.Stamps.{is_below, num_eq};
 ghost use Rattle.pm_base.specs.declared.stamp.Num.{Num as TheNum};
 ghost use Rattle.pm_periods.specs.Rows.{IsInOrder, key_lt};
 ghost use Rattle.pm_queries.specs.Laid.{SameRows, before, num_cmp, spot_of, up_to};
-ghost use Rattle.pm_queries.specs.Queries.{add_reg, asks_at, catches_by, caught_by, finish_in, has_reg, not_below};
+ghost use Rattle.pm_queries.specs.Queries.{HasGrown, add_reg, asks_at, catches_by, caught_by, finish_in, has_reg, not_below};
 ghost use Rattle.pm_queries.specs.Queries.{registered_key};
 ghost use Rattle.pm_tables.specs.Tables.{known_in};
 
@@ -82,6 +82,7 @@ impl ClassRows {
         ensures rows { OnOk result (self.new ≡ map (caught_by (known_in place class table.now) port class) self.old) }
         ensures out { OnOk result (out.new ≡ out.old ++
             asks_at port (filter (catches_by (known_in place class table.now) port class) self.old)) }
+        ensures grown { HasGrown out.old out.new }
         ensures same { SameRows self.old self.new }
     {
         catch_each(&mut self.rows, port, class, table, place, out)
@@ -126,6 +127,7 @@ fn catch_each(
         map (caught_by (known_in place class table.now) port class) rows.old.items) }
     ensures out { OnOk result (out.new ≡ out.old ++
         asks_at port (filter (catches_by (known_in place class table.now) port class) rows.old.items)) }
+    ensures grown { HasGrown out.old out.new }
     ensures same { SameRows rows.old.items rows.new.items }
 {
     for at in 0..rows.len() {

@@ -1,7 +1,7 @@
 // The ports of one query.
 ghost use Rattle.std.specs.Prelude.{◌≡◌, ◌++◌, [], ◌∷◌, if◌then◌else◌, IfOk, OnOk, OnErr};
 ghost use Rattle.std.specs.Option.{option_to_list};
-ghost use Rattle.pm_queries.specs.Queries.{asks_at, catches_by, caught_by, finish_if, has, without};
+ghost use Rattle.pm_queries.specs.Queries.{HasGrown, asks_at, catches_by, caught_by, finish_if, has, without};
 ghost use Rattle.pm_tables.specs.Tables.{known_in};
 
 use crate::registered::{Registered, Sent};
@@ -89,6 +89,7 @@ pub fn catch_one(
     ensures row { OnOk result (row.new ≡ caught_by (known_in place class table.now) port class row.old) }
     ensures out { OnOk result (out.new ≡ out.old ++
         (if catches_by (known_in place class table.now) port class row.old then asks_at port (row.old ∷ []) else [])) }
+    ensures grown { HasGrown out.old out.new }
     ensures err { OnErr result (row.new ≡ row.old) }
 {
     if !catches(row, port, class, table, place) {

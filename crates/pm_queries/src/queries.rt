@@ -3,8 +3,8 @@ ghost use Rattle.std.specs.BTreeMap.{get};
 ghost use Rattle.std.specs.Option.{option_to_list};
 ghost use Rattle.pm_base.specs.declared.stamp.Num.{Num as TheNum};
 ghost use Rattle.pm_queries.specs.Laid.{AllRise, HasRoom, drops, merged, num_cmp};
-ghost use Rattle.pm_queries.specs.Queries.{add_reg, asks_at, catches_by, caught_by, class_queries, finish_in, has_reg};
-ghost use Rattle.pm_queries.specs.Queries.{not_below};
+ghost use Rattle.pm_queries.specs.Queries.{HasGrown, add_reg, asks_at, catches_by, caught_by, class_queries, finish_in};
+ghost use Rattle.pm_queries.specs.Queries.{has_reg, not_below};
 ghost use Rattle.pm_tables.specs.Tables.{known_in};
 
 use crate::class_rows::ClassRows;
@@ -117,6 +117,7 @@ impl Queries {
             map (caught_by (known_in place class table.now) port class) self.old) }
         ensures sent { OnOk result (out.new ≡ out.old ++
             asks_at port (filter (catches_by (known_in place class table.now) port class) self.old)) }
+        ensures grown { HasGrown out.old out.new }
     {
         if class as usize >= self.classes.len() {
             return Ok(());

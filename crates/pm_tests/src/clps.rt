@@ -731,6 +731,27 @@ fn a_read_sees_what_is_below_its_stamp(rt: HostRuntime) -> Result<(), Fail> {
     Ok(())
 }
 
+// Writes in a class query's window about its stamp.
+fn meets_below(clp: &mut Trial) {
+    clp.sends(OWN, scan(9, across(1, 30)), &[(OWN, done(9))]);
+    // one at its own stamp, and one just above it, are no hits
+    clp.sends(OWN, put(0, 10, 9, 8), &to_both(at(9, 0), None, 8));
+    clp.sends(LEFT, put(1, 1, 9, 12), &to_both(at(9, 1), None, 12));
+    // one below it is, until it is withdrawn
+    let until = Some(at(9, 0));
+    let [left, right] = to_both(at(8, 2), until, 20);
+    clp.sends(RIGHT, put(2, 1, 8, 20), &[give(9, 1, 20), left, right]);
+    clp.sends(RIGHT, cut(2, 1, 8), &[give_of(9, 2, None)]);
+}
+
+#[test]
+fn a_query_sees_what_is_below_its_stamp(rt: HostRuntime) -> Result<(), Fail> {
+    let mut clp = at_first(rt.alloc(), &[Way::Here], 0)?;
+    meets_below(&mut clp);
+    assert_eq!(rt; clp.end()?, None);
+    Ok(())
+}
+
 // Two queries with a read each, and a put; a query with its read is left.
 fn forgets(clp: &mut Trial) {
     let all = Window::whole();

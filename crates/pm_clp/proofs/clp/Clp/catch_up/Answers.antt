@@ -5,8 +5,8 @@ use Rattle.pm_clp.specs.Views.{ClpView, Did, hub_of, state_of}
 use Rattle.pm_clp.proofs.Leaves.{caught-did, on_ok_both}
 use Rattle.pm_clp.proofs.clp.Clp.catch_up.Goals as goal
 
-pub returns : goal.returns
-returns c =
+pub returns-clause-did : goal.returns-clause-did
+returns-clause-did c =
     let i = c.self.inside in
     let h = hub_of i.ports i.to_agents i.layout in
     let place = c.place_of-place.ensures ∙ ap (λ (v : ClpView). place_of v.hub.ports c.args.port)

@@ -14,8 +14,8 @@ install-requires-clause-turns c =
     subst (λ (r : Record). TurnsUpTo (2 ^ 32) r.parts) (sym c.in_ok-held.ensures)
     (settled_turns (2 ^ 32) c.args.parts.now c.requires.turns)
 
-pub returns : goal.returns
-returns c =
+pub returns-clause-did : goal.returns-clause-did
+returns-clause-did c =
     let i = c.self.inside in
     let h = hub_of i.ports i.to_agents i.layout in
     let r = settled c.args.parts.now in

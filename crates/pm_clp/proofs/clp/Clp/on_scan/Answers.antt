@@ -10,6 +10,6 @@ register-requires c =
     let row = c.members-row.result in
     let same = watched_queries now c.watch_class.new.self c.args.out.now c.watch_class.new.out now.hub c.args.num
     c.args.stamp c.args.window
-    row.first row.count c.in_ok-watch_class.ensures in
+    row.first row.count c.in_ok-watch_class.ensures.did in
     let new : has_reg c.args.num now.clp.queries ≡ false = sym c.knows.ensures ∙ c.if-knows.false in
     subst (λ (qs : List Registered). has_reg c.args.num qs ≡ false) (sym same) new

@@ -4,8 +4,8 @@ use Rattle.pm_clp.specs.Views.{ClpView, DidRaise, hub_of, state_of, give_to}
 use Rattle.pm_clp.proofs.Steps.{on_ok, raised-did}
 use Rattle.pm_clp.proofs.clp.Clp.record_cut.Goals as goal
 
-pub returns : goal.returns
-returns c =
+pub returns-clause-did : goal.returns-clause-did
+returns-clause-did c =
     let i = c.self.inside in
     let f = take_cut c.args.var c.args.row in
     on_ok c.send_gives.result
@@ -24,4 +24,4 @@ returns c =
     c.args.var c.cut.new.self c.in_ok-gives.gives c.args.out.now c.send_gives.new.out c.in_ok-gives.ensures.ok
     c.in_ok-gives.ensures.gives
     (sent ∙ ap (λ z. c.args.out.now ++ map (give_to i.to_agents) z) c.as_slice.ensures)))
-    c.send_gives.ensures
+    c.send_gives.ensures.sent

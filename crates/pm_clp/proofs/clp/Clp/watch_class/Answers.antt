@@ -1,4 +1,5 @@
 use Rattle.std.proofs.Common.{◌≡◌, ◌+◌, ◌-◌, ◌≤◌, ◌<◌, ◌∙◌, ℕ, suc, arith, ap, refl, subst}
+use Rattle.pm_queries.proofs.Grown.{grown_same, grown_then}
 use Rattle.pm_clp.specs.Clps.{ClpState, ClpSends, Hub, at_record, take_watch, watch_all}
 use Rattle.pm_clp.specs.Views.{Did, Leads}
 use Rattle.pm_clp.proofs.Steps.{did-hub, leads-end, leads-step}
@@ -17,6 +18,8 @@ loop-at-init c =
     skipped now.hub c.args.num c.args.stamp c.args.window row.first at end now.clp c.next_here-at.ensures.from c.next_here-at.ensures.until c.next_here-at.ensures.skipped in
     record {
       hub = refl;
+      stays = refl;
+      grown = grown_same c.args.out.now;
       within = c.next_here-at.ensures.until;
       leads = leads-same now now c.args.out.now c.args.out.now (walk row.first row.count) (walk at (end - at)) (walk row.first row.count)
           (ap (λ n. walk row.first n now.clp) count ∙ pass) (leads-start now c.args.out.now (walk row.first row.count));
@@ -33,7 +36,7 @@ loop-at-preserved c =
     let now = c.loop-at.self in
     let new = c.record_watch.new.self in
     let did : Did now new c.loop-at.out c.record_watch.new.out (at_record now.hub at (take_watch at c.args.num c.args.stamp c.args.window)) =
-    c.in_ok-record_watch.ensures in
+    c.in_ok-record_watch.ensures.did in
     let less : end - at ≡ suc (end - (at + 1)) = omega arith in
     let on : suc at ≡ at + 1 = omega arith in
     let whole : ClpState → ClpSends = walk row.first row.count in
@@ -48,12 +51,15 @@ loop-at-preserved c =
     c.next_here-at-in-loop-at.ensures.skipped in
     record {
       hub = did-hub now new c.loop-at.out c.record_watch.new.out _ did ∙ c.loop-at.invariant.hub;
+      stays = c.record_watch.ensures.stays ∙ c.loop-at.invariant.stays;
+      grown = grown_then c.args.out.now c.loop-at.out c.record_watch.new.out c.loop-at.invariant.grown
+          c.record_watch.ensures.grown;
       within = c.next_here-at-in-loop-at.ensures.until;
       leads = leads-same new c.args.self.now c.record_watch.new.out c.args.out.now (walk (at + 1) (end - (at + 1))) (walk next (end - next)) whole pass went;
     }
 
-pub returns : goal.returns
-returns c =
+pub returns-clause-did : goal.returns-clause-did
+returns-clause-did c =
     let row = c.args.row in
     let walk : ℕ → ℕ → ClpState → ClpSends = watch_all c.args.self.now.hub c.args.num c.args.stamp c.args.window in
     let none : (row.first + row.count) - c.loop-at.at ≡ 0 = omega arith in

@@ -1,5 +1,6 @@
 use Rattle.std.proofs.Common.{◌≡◌, ◌∙◌, ◌+◌, ◌<◌, ◌≤◌, List, suc, arith, subst, length, drop, slice_get}
 use Rattle.pm_queries.specs.Queries.{class_queries}
+use Rattle.pm_queries.proofs.Grown.{grown_then}
 use Rattle.pm_queries.specs.declared.registered.Registered.{Registered}
 use Rattle.pm_clp.specs.Clps.{Hub}
 use Rattle.pm_clp.specs.Views.{Did, Leads, watch_at, watch_each}
@@ -18,7 +19,7 @@ loop-at-preserved c =
     let now = c.loop-at.self in
     let new = c.watch_query.new.self in
     let did : Did now new c.loop-at.out c.watch_query.new.out
-    (watch_at now.hub v (slice_get (class_queries k now.clp.queries) at)) = c.in_ok-watch_query.ensures in
+    (watch_at now.hub v (slice_get (class_queries k now.clp.queries) at)) = c.in_ok-watch_query.ensures.did in
     let here : Did now new c.loop-at.out c.watch_query.new.out
     (watch_at h v (slice_get (class_queries k now.clp.queries) at)) =
     subst (λ (g : Hub). Did now new c.loop-at.out c.watch_query.new.out
@@ -30,6 +31,9 @@ loop-at-preserved c =
     let on : suc at ≡ at + 1 = omega arith in
     record {
       hub = did-hub now new c.loop-at.out c.watch_query.new.out _ did ∙ c.loop-at.invariant.hub;
+      stays = c.watch_query.ensures.stays ∙ c.loop-at.invariant.stays;
+      grown = grown_then c.args.out.now c.loop-at.out c.watch_query.new.out c.loop-at.invariant.grown
+          c.watch_query.ensures.grown;
       queries = watch_queries-keep now new c.loop-at.out c.watch_query.new.out h v (slice_get qs at) step
           ∙ c.loop-at.invariant.queries;
       leads = subst (λ n. Leads new c.watch_query.new.out (watch_each h v (drop n qs)) c.args.self.now
@@ -38,8 +42,8 @@ loop-at-preserved c =
           (watch_each h v qs) below step c.loop-at.invariant.leads);
     }
 
-pub returns : goal.returns
-returns c =
+pub returns-clause-did : goal.returns-clause-did
+returns-clause-did c =
     let k = c.class_of-class.result in
     let past : length (class_queries k c.args.self.now.clp.queries) ≤ c.loop-at.at =
     subst (λ n. n ≤ c.loop-at.at) c.query_count-at-end.ensures c.loop-at-test.false in
