@@ -1,0 +1,5 @@
+pub mod Orders
+pub mod Firsts
+pub mod Rounds
+pub mod Goings
+pub mod Endings

@@ -1,3 +1,9 @@
 //! The lowest run: one that always delivers the message of least stamp. It is a legal run of the core's world, and it
 //! never rolls back. Definitions that contracts cite, and their laws.
 #![tactic(auto)]
+
+mod laws;
+
+pub use laws::{
+    the_least_link, the_lowest_run_ends, the_lowest_run_goes_on, the_lowest_run_is_legal,
+};
