@@ -217,8 +217,8 @@ least_is p w k to from f = go (least_mail p w) (lowest_is p w.links)
         let s = same_link p x y g2 (h.least y iy) in
         (λ i. Some ((s.0 ∙ et) i, (s.1 ∙ ef) i))
 
-pub least_link_is : (p : Plan) → IsValid p → (n : ℕ) (w : World) → LeastLinkOf n p w
-least_link_is p valid n w r = record {
+pub least_link_is : (p : Plan) (n : ℕ) (w : World) → IsValid p → LeastLinkOf n p w
+least_link_is p n w valid r = record {
   some = least_is p w (reached_kept p (plan_fits p valid) n w r);
   none = λ e. ap (ends_of p) (left_none p w.links e);
   only_none = λ e. go (least_mail p w) refl e;
