@@ -1,2 +1,3 @@
 pub mod Lowest
 pub mod Calm
+pub mod Phases
