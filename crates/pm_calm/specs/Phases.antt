@@ -119,11 +119,11 @@ token (Single n x) (message.Grow k z u w) = false
 -- a class query that is over
 pub record Over : Type 0 where
   pub num : Num
-  pub kind : ℕ
+  pub class : ℕ
   pub window : Window
 
 abbrev pub is_over : List Over → Num → ℕ → Window → Type 0
-is_over os k j u = In (record { num = k; kind = j; window = u }) os
+is_over os k j u = In (record { num = k; class = j; window = u }) os
 
 abbrev pub OpenSense : Phase → KeptSense → Type 0
 OpenSense Idle x = ⊥
