@@ -17,6 +17,7 @@ use Rattle.pm_base.specs.declared.value.Query.TheVariants as query
 use Rattle.pm_base.specs.declared.value.Window.{Window}
 use Rattle.pm_message.specs.declared.Message.{Message}
 use Rattle.pm_message.specs.declared.Message.TheVariants as message
+use Rattle.pm_periods.proofs.Settling.{settled-same}
 use Rattle.pm_periods.specs.Periods.{periods_from}
 use Rattle.pm_periods.specs.Records.{settled}
 use Rattle.pm_plan.specs.declared.plan.Plan.{Plan}
@@ -496,9 +497,9 @@ module _ (p : Plan) (c : ℕ) (s : Stamp) (over : Num → ℕ → Window → Typ
       one true e = (let a = hr r (inl refl) in watches r.num r.stamp r.class r.window a.0 (inl (a.1.0, late)) v
           (let f : class_at p v ≡ r.class = grind (arith, nat_tests, e) in f) x h)
 
-  move_good : MoveAt ph → (from v : ℕ) (z : Stamp) (r : Parts) → settled r ≡ r → RecAt p s over v r
+  move_good : MoveAt ph → (from v : ℕ) (z : Stamp) (r : Parts) → RecAt p s over v r
       → (x : ClpState) → State x → Good 0 (clp_after (hub_of p c) from (message.Move v z r) x)
-  move_good late from v z r fix a x h =
+  move_good late from v z r a x h =
       joins late v x.queries (λ y i. (h.stamps y i, reg_late p over ph y late (h.regs y i)))
       (installed (hub_of p c) from v (settled r) x) (record {
         records = λ u y e. elim (cases_eq u v) [
@@ -509,7 +510,7 @@ module _ (p : Plan) (c : ℕ) (s : Stamp) (over : Num → ℕ → Window → Typ
               let l = length-set x.records v (Some (settled r)) in omega arith) in
               subst (λ k. RecAt p s over k y) (sym g) (subst (RecAt p s over v) (some_rec (settled r) y
               (sym (get_or-set_same x.records v (Some (settled r)) None lt) ∙ e'))
-              (subst (RecAt p s over v) (sym fix) a)))
+              (subst (RecAt p s over v) (sym (settled-same r a.solid)) a)))
         ];
         stamps = h.stamps;
         regs = h.regs;
@@ -590,31 +591,30 @@ one_good p c s over n i from k z v es ek x h = go (way_of v x)
 -- a delivery at a communication process
 pub clp_good : (p : Plan) (c : ℕ) (s : Stamp) (over : Num → ℕ → Window → Type 0) (ph : Phase) (f : Process) (m : Message)
     → OfRange p → process p (number p f) ≡ f → MailAt p s over ph (AtClp c) f m
-    → ((v : ℕ) (z : Stamp) (r : Parts) → m ≡ message.Move v z r → settled r ≡ r) → (x : ClpState)
-    → ClpAt p s over ph x → Good p c s over ph (one_if (token ph m) 0) (clp_after (hub_of p c) (number p f) m x)
-clp_good p c s over ph f (message.Wake k z) rg nm m fix x h =
+    → (x : ClpState) → ClpAt p s over ph x → Good p c s over ph (one_if (token ph m) 0) (clp_after (hub_of p c) (number p f) m x)
+clp_good p c s over ph f (message.Wake k z) rg nm m x h =
     more p c s over ph 0 _ _ (omega arith) (still p c s over ph x h)
-clp_good p c s over ph f (message.Give g) rg nm m fix x h = give_good p c s over ph g f m x h
-clp_good p c s over ph f (message.Cut r_n r_t v) rg nm m fix x h = absurd m
-clp_good p c s over ph f (message.Put r_n r_t v r_c) rg nm m fix x h =
+clp_good p c s over ph f (message.Give g) rg nm m x h = give_good p c s over ph g f m x h
+clp_good p c s over ph f (message.Cut r_n r_t v) rg nm m x h = absurd m
+clp_good p c s over ph f (message.Put r_n r_t v r_c) rg nm m x h =
     more p c s over ph 0 _ _ (omega arith) (put_good p c s over ph m.1 (number p f) r_n r_t v r_c m.0 x h)
-clp_good p c s over ph f (message.Move v z r) rg nm m fix x h =
-    more p c s over ph 0 _ _ (omega arith) (move_good p c s over ph m.1 (number p f) v z r (fix v z r refl) m.2 x h)
-clp_good p c s over ph f (message.Grow k z until u) rg nm m fix x h =
+clp_good p c s over ph f (message.Move v z r) rg nm m x h =
+    more p c s over ph 0 _ _ (omega arith) (move_good p c s over ph m.1 (number p f) v z r m.2 x h)
+clp_good p c s over ph f (message.Grow k z until u) rg nm m x h =
     more p c s over ph 0 _ _ (omega arith) (grow_good p c s over ph m.1 (number p f) k z until u m.0 x h)
-clp_good p c s over ph f (message.Finish k z) rg nm m fix x h =
+clp_good p c s over ph f (message.Finish k z) rg nm m x h =
     more p c s over ph 0 _ _ (omega arith) (finish_good p c s over ph (number p f) k z m.1 x h)
-clp_good p c s over Idle f (message.Ask k z (query.One v)) rg nm m fix x h = absurd m.1
-clp_good p c s over (Range n i w) f (message.Ask k z (query.One v)) rg nm m fix x h = absurd m.1
-clp_good p c s over (Single n i) f (message.Ask k z (query.One v)) rg nm m fix x h =
+clp_good p c s over Idle f (message.Ask k z (query.One v)) rg nm m x h = absurd m.1
+clp_good p c s over (Range n i w) f (message.Ask k z (query.One v)) rg nm m x h = absurd m.1
+clp_good p c s over (Single n i) f (message.Ask k z (query.One v)) rg nm m x h =
     one_good p c s over n i (number p f) k z v m.0 m.1 x h
-clp_good p c s over Idle f (message.Ask k z (query.Class j u)) rg nm m fix x h =
+clp_good p c s over Idle f (message.Ask k z (query.Class j u)) rg nm m x h =
     let clp : IsClp (process p (number p f)) = subst IsClp (sym nm) m.1.1 in
     class_good p c s over Idle rg (number p f) k z j u m.0 (inl (m.1.0, tt)) (m.1.0, tt) clp
     (λ ds. (m.1.0, λ a e. absurd (subst IsClp e clp))) x h
-clp_good p c s over (Single n i) f (message.Ask k z (query.Class j u)) rg nm m fix x h =
+clp_good p c s over (Single n i) f (message.Ask k z (query.Class j u)) rg nm m x h =
     let clp : IsClp (process p (number p f)) = subst IsClp (sym nm) m.1.1 in
     class_good p c s over (Single n i) rg (number p f) k z j u m.0 (inl (m.1.0, tt)) (m.1.0, tt) clp
     (λ ds. (m.1.0, λ a e. absurd (subst IsClp e clp))) x h
-clp_good p c s over (Range n i w) f (message.Ask k z (query.Class j u)) rg nm m fix x h =
+clp_good p c s over (Range n i w) f (message.Ask k z (query.Class j u)) rg nm m x h =
     class_good p c s over (Range n i w) rg (number p f) k z j u m.0 (inr m.1) m.1 m.1.0 (λ ds. inr m.1) x h

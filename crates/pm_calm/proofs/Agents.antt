@@ -1,7 +1,7 @@
 -- An agent's delivery in the lowest run.
 use Rattle.std.proofs.Common.{◌≡◌, ℕ, ◌<◌, ◌⊎◌, inl, inr, Bool, true, false, cond, List, [], ◌∷◌, ◌++◌, map, length, get_or, set, nat_le, refl, arith, ap, sym, ◌∙◌, subst, Option, Some, None, get_or-set_other, get_or-set_same, length-set}
 use Rattle.std.proofs.lemmas.Bool.{cases_eq, cases_Bool}
-use Rattle.pm_alp.specs.Agents.{Sends, at_open, finished, go_on, kept_in, no_agent, no_sends, on_finish, on_give, on_wake, wake_of, with_hit}
+use Rattle.pm_alp.specs.Agents.{Sends, at_open, finished, go_on, kept_in, no_agent, no_sends, on_finish, on_give, on_wake, step_of, wake_of, with_hit}
 use Rattle.pm_alp.specs.declared.agent.Agent.{Agent}
 use Rattle.pm_alp.specs.declared.agent.Awaited.{Awaited}
 use Rattle.pm_base.specs.Stamps.{IsBefore, num_eq}
@@ -10,7 +10,10 @@ use Rattle.pm_base.specs.declared.rows.Parts.{Parts}
 use Rattle.pm_base.specs.declared.stamp.Num.{Num}
 use Rattle.pm_base.specs.declared.stamp.Stamp.{Stamp}
 use Rattle.pm_base.specs.declared.value.Window.{Window}
+use Rattle.pm_calm.proofs.Finds.{found}
+use Rattle.pm_calm.proofs.Phasing.{IsWake, chain_agent, open_alone}
 use Rattle.pm_calm.proofs.Records.{value_base}
+use Rattle.pm_calm.proofs.Rests.{goes}
 use Rattle.pm_calm.specs.Phases.{AgentAt, Calm, ClpAt, Ended, HasSense, InOrder, MailAt, OpenIn, OpenSense, OrderIn, Over, Phase, RecAt, SenseAt, Silent, Tidy, is_over, token}
 use Rattle.pm_calm.specs.Phases.Phase.{Idle, Range, Single}
 use Rattle.pm_clp.specs.Clps.{rec_at}
@@ -20,7 +23,7 @@ use Rattle.pm_model.specs.declared.State.{State}
 use Rattle.pm_plan.specs.declared.plan.Plan.{Plan}
 use Rattle.pm_queries.specs.Queries.{has_reg}
 use Rattle.pm_queries.specs.declared.registered.Registered.{Registered}
-use Rattle.pm_saved.proofs.HitLemmas.{hit_in}
+use Rattle.pm_periods.specs.Records.{hit_in, record_value}
 use Rattle.pm_saved.specs.Senses.{add_kept, answers, kept_turn}
 use Rattle.pm_saved.specs.Spots.{Spot, find}
 use Rattle.pm_saved.specs.Steps.{regs_after}
@@ -28,18 +31,16 @@ use Rattle.pm_saved.specs.declared.kept.KeptSense.{KeptSense}
 use Rattle.pm_saved.specs.declared.kept.KeptStep.{KeptStep}
 use Rattle.pm_sim.proofs.Letters.{map_in, message_of, taken}
 use Rattle.pm_sim.proofs.Lists.{in_cases, in_left, in_right}
-use Rattle.pm_sim.proofs.Places.{Sim, clp_at, queries_at}
+use Rattle.pm_sim.proofs.Places.{Sim, clp_at, in_range, queries_at}
 use Rattle.pm_sim.proofs.Queries.{has_reg_in, one_reg, toward_away}
 use Rattle.pm_sim.proofs.Spots.{FindIs, Found, find_is}
 use Rattle.pm_sim.proofs.Stamps.{num_eq_self, nums_same}
-use Rattle.pm_sim.proofs.Stirs.{chain_open}
 use Rattle.pm_sim.proofs.Takings.{LinkOk, Linked}
 use Rattle.pm_sim.proofs.Wires.{Took, took}
 use Rattle.pm_sim.specs.Bounds.{BoundsOk, between}
 use Rattle.pm_sim.specs.Covers.{AskedOk}
 use Rattle.pm_sim.specs.Routings.{Begun, FitsAt, IsClp, mail_to, toward}
-use Rattle.pm_sim.specs.Sims.{In, MailOk, NotPast, class_at, has_read}
-use Rattle.pm_sim.specs.Waking.{step}
+use Rattle.pm_sim.specs.Sims.{In, MailOk, NotPast, after, class_at, has_read}
 use Rattle.pm_sim.specs.Worlds.{Mail, Process, Taken, World, actor_of, addressed, clps_of, home, mail, number, post_all, rule_at, take_from}
 use Rattle.pm_sim.specs.Worlds.Process.{AtAgent, AtClp}
 use Rattle.pm_message.specs.declared.Message.TheVariants as message
@@ -81,15 +82,15 @@ module _ (p : Plan) (q : State) (w : World) (recs : ℕ → Parts) (sim : Sim p 
   ok = sim.core.mail t.message (map_in message_of (mail w.links) _ mail_in)
 
   -- only one agent has steps
-  step_of : (i : ℕ) → i < length w.agents → (z : KeptStep) → In z (get_or w.agents i no_agent).steps → s.agent ≡ i
-  step_of i li z j = ap (λ (y : Stamp). y.agent) (sym ((calm.agents i li).steps z j)) ∙ chain_agent sim.issued p.horizon (rule_at p i) i _ _ (get_or w.agents i no_agent).steps (get_or w.agents i no_agent).awaited (sim.core.agent i li).chain z j
+  agent_of_step : (i : ℕ) → i < length w.agents → (z : KeptStep) → In z (get_or w.agents i no_agent).steps → s.agent ≡ i
+  agent_of_step i li z j = ap (λ (y : Stamp). y.agent) (sym ((calm.agents i li).steps z j)) ∙ chain_agent sim.issued p.horizon (rule_at p i) i _ _ (get_or w.agents i no_agent).steps (get_or w.agents i no_agent).awaited (sim.core.agent i li).chain z j
 
   only : a ≡ s.agent → (i : ℕ) → i < length w.agents → (i ≡ a → ⊥) → (get_or w.agents i no_agent).steps ≡ []
-  only ea i li ne = no_elements (get_or w.agents i no_agent).steps (λ z j. ne (sym (step_of i li z j) ∙ sym ea))
+  only ea i li ne = no_elements (get_or w.agents i no_agent).steps (λ z j. ne (sym (agent_of_step i li z j) ∙ sym ea))
 
   -- an incomplete sense: no message.Wake is awaited
   none_awaited : (z : KeptStep) (x : KeptSense) → In z ag.steps → In x z.senses → x.complete ≡ false → ag.awaited ≡ None
-  none_awaited z x i j f = chain_open sim.issued p.horizon (rule_at p a) a _ _ ag.steps ag.awaited (sim.core.agent a la).chain z x i j f
+  none_awaited z x i j f = open_alone sim.issued p.horizon (rule_at p a) a _ _ ag.steps ag.awaited (sim.core.agent a la).chain z x i j f
 
   -- ---- a Wake
   pub wake_calm : (k : Num) (z : Stamp) → t.message ≡ message.Wake k z → ((x : Mail) → In x (mail t.links) → IsWake x.message) → Goal (on_wake (actor_of p a) ag k ag.awaited)
@@ -119,7 +120,7 @@ module _ (p : Plan) (q : State) (w : World) (recs : ℕ → Parts) (sim : Sim p 
           let ek : num_eq k aw.num ≡ true = subst (λ y. num_eq k y ≡ true) (sym (num_is aw.num k aw.stamp z hd)) (num_eq_self k) in
           let es : aw.stamp ≡ s = ap stamp_of hd ∙ (ap stamp_of (sym em) ∙ at) in
           let no_open : (y : KeptStep) (x : KeptSense) → In y ag.steps → In x y.senses → x.complete ≡ false → ⊥ = λ y x i j n. (let b : Some aw ≡ None = sym f ∙ none_awaited y x i j n in cc) in
-          let o = goes p q w recs sim s os ph calm a la from t e quiet os (closed ph refl no_open) ag.steps (λ y i. i) (λ y x i j. complete_of no_open y x i j) [] (λ x i. absurd i) empty (only ea) ag.base (step (rule_at p a) s (regs_after ag.base ag.steps) (answers [])) in
+          let o = goes p q w recs sim s os ph calm a la from t e quiet os (closed ph refl no_open) ag.steps (λ y i. i) (λ y x i j. complete_of no_open y x i j) [] (λ x i. absurd i) empty (only ea) ag.base (step_of (rule_at p a) s (regs_after ag.base ag.steps) (answers [])) in
           let r = subst (λ r. Calm p (next r) s os o.0 × OrderIn o.0 p (next r)) (sym (ap (λ b. cond b (go_on (actor_of p a) ag.base ag.steps aw.stamp [] ag.seq) (no_sends ag)) ek ∙ ap (λ y. go_on (actor_of p a) ag.base ag.steps y [] ag.seq) es)) (o.1, o.2) in
           (os, o.0, r.0, r.1)
         where
@@ -139,7 +140,7 @@ module _ (p : Plan) (q : State) (w : World) (recs : ℕ → Parts) (sim : Sim p 
           shut : (n : Num) → HasSense w n → ((x : KeptSense) → SenseAt ph x → x.num ≡ n → x.complete ≡ false) → ((y : KeptStep) (x : KeptSense) → In y ag.steps → In x y.senses → x.complete ≡ false → ⊥) → ⊥
           shut n h op nop =
               let ln = h.0 in
-              let ei : n.agent ≡ a = sym (step_of n.agent ln h.1 h.3) ∙ sym ea in
+              let ei : n.agent ≡ a = sym (agent_of_step n.agent ln h.1 h.3) ∙ sym ea in
               nop h.1 h.2 (subst (λ y. In h.1 (get_or w.agents y no_agent).steps) ei h.3) h.4 (op h.2 ((calm.agents n.agent ln).senses h.1 h.2 h.3 h.4) h.5)
 
           closed : (y : Phase) → ph ≡ y → ((y : KeptStep) (x : KeptSense) → In y ag.steps → In x y.senses → x.complete ≡ false → ⊥) → (c : ℕ) → c < clps_of p → ClpAt p s (is_over os) Idle (clp_at w c)
@@ -228,7 +229,7 @@ module _ (p : Plan) (q : State) (w : World) (recs : ℕ → Parts) (sim : Sim p 
           | inl h ↦ before_done y h
           | inr h ↦ elim h [ inr b ↦ absurd b | inl f ↦ subst (λ (v : KeptSense). (v.complete ≡ true) × ((z : Stamp) × In (message.Ask v.num z v.query) sim.issued)) (sym f) (ec, (x.here.stamp, old en eq)) ]
         ] in
-        let o' = goes p q w recs sim s os ph calm a la from t e quiet os' closed x.front front_in front_done (x.before ++ x' ∷ []) dn empty (only es) ag.base (step (rule_at p a) s (regs_after ag.base x.front) (answers (x.before ++ x' ∷ []))) in
+        let o' = goes p q w recs sim s os ph calm a la from t e quiet os' closed x.front front_in front_done (x.before ++ x' ∷ []) dn empty (only es) ag.base (step_of (rule_at p a) s (regs_after ag.base x.front) (answers (x.before ++ x' ∷ []))) in
         let r = subst (λ r. Calm p (next r) s os' o'.0 × OrderIn o'.0 p (next r)) (ap (λ y. go_on (actor_of p a) ag.base x.front y (x.before ++ x' ∷ []) ag.seq) (sym here_at)) (o'.1, o'.2) in
         (os', o'.0, r.0, r.1)
       where
@@ -447,7 +448,7 @@ module _ (p : Plan) (q : State) (w : World) (recs : ℕ → Parts) (sim : Sim p 
             let op = r.1 in
             let os' = subst (λ y. OpenSense y x.sense) ep op.open' in
             let clp : IsClp from = of_clp from refl in
-            let ord : InOrder (clps_of p) n (queries_at w) w.links = subst (λ y. OrderIn y p w) ep order in
+            let ord : InOrder p n (queries_at w) w.links = subst (λ y. OrderIn y p w) ep order in
             let new : Over = over_of n i u in
             subst (λ y. Goal (on_finish (actor_of p a) ag y)) (sym op.found)
             (subst (λ b. Goal (finished b (actor_of p a) ag x x.sense.query)) (sym os'.1)
@@ -467,13 +468,13 @@ module _ (p : Plan) (q : State) (w : World) (recs : ℕ → Parts) (sim : Sim p 
                 none None h = cc
                 none (Some aw) h = cc
 
-            closing : (n : Num) (i : ℕ) (u : Window) → k ≡ n → ph ≡ Range n i u → (x : Spot) (op : Opened k x) → x.sense.num ≡ n → x.sense.query ≡ query.Class i u → InOrder (clps_of p) n (queries_at w) w.links → IsClp from → (c : ℕ) → c < clps_of p
+            closing : (n : Num) (i : ℕ) (u : Window) → k ≡ n → ph ≡ Range n i u → (x : Spot) (op : Opened k x) → x.sense.num ≡ n → x.sense.query ≡ query.Class i u → InOrder p n (queries_at w) w.links → IsClp from → (c : ℕ) → c < clps_of p
                 → ClpAt p s (is_over (over_of n i u ∷ os)) Idle (clp_at w c)
             closing n i u ek ep x op en eq ord clp c lc = record {
               records = λ v y er. (let h = st.records v y er in record {
                 puts = h.puts;
                 reads = h.reads;
-                own = h.own;
+                solid = h.solid;
                 silent = λ m j b ov ec. elim ov [ inr old ↦ h.silent m j b old ec | inl f ↦ now v y er h m j b f ec ];
               });
               stamps = st.stamps;
@@ -508,11 +509,11 @@ module _ (p : Plan) (q : State) (w : World) (recs : ℕ → Parts) (sim : Sim p 
                 na : n.agent ≡ a
                 na = ap (λ (y : Num). y.agent) (sym ek) ∙ ea
 
-                ends : (y : Registered) → In y (queries_at w c) → y.num ≡ n → (b : ℕ) → y.from ≡ AtAgent b → y.waits ≡ []
+                ends : (y : Registered) → In y (queries_at w c) → y.num ≡ n → (b : ℕ) → process p y.from ≡ AtAgent b → y.waits ≡ []
                 ends y iy ey b fb = elim (cases_eq c (home p n.agent)) [
                   | inl f ↦ (let ch : c ≡ home p a = f ∙ ap (home p) na in
                       subst (λ (v : Registered). v.waits ≡ []) (one_reg (queries_at w c) ended.0 y (sim.queries.alone c lc) (subst (λ v. In ended.0 (queries_at w v)) (sym ch) ended.1) iy (ended.2 ∙ sym ey)) ended.3)
-                  | inr ne ↦ absurd (let f : y.from ≡ toward p c n.agent = (sim.queries.reg c y lc iy).2 ∙ ap (λ (v : Num). toward p c v.agent) ey in let g = toward_away p w.line sim.tree c n.agent ne in let h = sym fb ∙ (f ∙ g) in cc)
+                  | inr ne ↦ absurd (let f : process p y.from ≡ toward p c n.agent = (sim.queries.reg c y lc iy).2 ∙ ap (λ (v : Num). toward p c v.agent) ey in let g = toward_away p w.line sim.tree c n.agent ne in let h = sym fb ∙ (f ∙ g) in cc)
                 ]
 
                 now : (v : ℕ) (y : Parts) → rec_at (clp_at w c).records v ≡ Some y → RecAt p s (is_over os) v y → (m : Num) (j : ℕ) (b : Window) → over_of m j b ≡ over_of n i u → class_at p v ≡ j → Silent m b y
@@ -520,15 +521,16 @@ module _ (p : Plan) (q : State) (w : World) (recs : ℕ → Parts) (sim : Sim p 
                     let fm : m ≡ n = ap (λ (o : Over). o.num) f in
                     let fj : j ≡ i = ap (λ (o : Over). o.class) f in
                     let fb : b ≡ u = ap (λ (o : Over). o.window) f in
-                    let lv = at_low p (length q.values) w.line recs sim.place (clp_at w) (mail w.links) sim.places c v y lc er in
+                    let lv : v < length q.values =
+                    (let i' = in_range (clp_at w c).records v y er in let l = sim.places.records_len c lc in omega arith) in
                     let is : y ≡ recs v = (sim.places.at c v y lc er).1 in
                     let low : NotPast w.line s = subst (NotPast w.line) at ok.1 in
                     let bg : Begun p (queries_at w) (mail w.links) n = inl (subst (λ v'. has_reg n (queries_at w v') ≡ true) (ap (home p) (sym na)) (has_reg_in n (queries_at w (home p a)) ended.0 ended.1 ended.2)) in
-                    let fd = found p q w recs sim asked bounds (line.At (later s)) (λ e' f' m' i'. absurd (shut _ i' e' refl)) n s i u iss low (before_later s) v lv (ec ∙ fj) bg in
+                    let fd = found p q w recs sim asked bounds (line.At (after s)) (λ e' f' m' i'. absurd (shut _ i' e' refl)) n s i u iss low (before_later s) v lv (ec ∙ fj) bg in
                     subst (λ o. Silent o b y) (sym fm) (subst (λ o. Silent n o y) (sym fb) (elim fd [
                       | inl g ↦ inl (subst (λ (o : Parts). has_read n o.reads ≡ true) (sym is) g)
-                      | inr g ↦ inr (ap (λ o. hit_in o u) (sym (value_base s y y.puts h.puts) ∙ ap (λ (o : Parts). value o s) is) ∙ g)
+                      | inr g ↦ inr (ap (λ o. hit_in o u) (sym (value_base s y h.puts) ∙ ap (λ (o : Parts). record_value o s) is) ∙ g)
                     ]))
                   where
-                    before_later : (y : Stamp) → IsBefore y (later y)
+                    before_later : (y : Stamp) → IsBefore y (after y)
                     before_later y = grind arith

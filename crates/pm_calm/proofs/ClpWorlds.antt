@@ -3,10 +3,7 @@ use Rattle.std.proofs.Common.{◌≡◌, ℕ, ◌<◌, inl, inr, List, [], ◌�
 use Rattle.std.proofs.lemmas.Bool.{cases_eq}
 use Rattle.pm_base.specs.declared.rows.Parts.{Parts}
 use Rattle.pm_base.specs.declared.stamp.Stamp.{Stamp}
-use Rattle.pm_message.specs.declared.Message.TheVariants as message
 use Rattle.pm_model.specs.declared.State.{State}
-use Rattle.pm_periods.proofs.Settling.{settled-same}
-use Rattle.pm_periods.specs.Records.{settled}
 use Rattle.pm_plan.specs.declared.plan.Plan.{Plan}
 use Rattle.pm_queries.specs.declared.registered.Sent.{Sent}
 use Rattle.pm_clp.specs.Clps.{ClpSends, ClpState, clp_after}
@@ -50,15 +47,7 @@ module _ (p : Plan) (q : State) (w : World) (recs : ℕ → Parts) (sim : Sim p 
 
   pub good : Good p c s (is_over os) ph (one_if (token ph t.message) 0) done
   good = clp_good p c s (is_over os) ph from t.message sim.shape.of_range
-      (number_linked p sim.tree c from (linked.mail _ there).0) (calm.letters _ there) fixed (clp_at w c) (calm.clps c lc)
-    where
-      fixed : (v : ℕ) (z : Stamp) (r : Parts) → t.message ≡ message.Move v z r → settled r ≡ r
-      fixed v z r f = (let i : In (mail_to (AtClp c) from (message.Move v z r)) (mail w.links) =
-          subst (λ m. In (mail_to (AtClp c) from m) (mail w.links)) f there in settled_in v z r i)
-        where
-          settled_in : (v : ℕ) (z : Stamp) (r : Parts)
-              → In (mail_to (AtClp c) from (message.Move v z r)) (mail w.links) → settled r ≡ r
-          settled_in v z r i = hole
+      (number_linked p sim.tree c from (linked.mail _ there).0) (calm.letters _ there) (clp_at w c) (calm.clps c lc)
 
   pub calm_clp : Calm p after s os ph
   calm_clp = record {

@@ -1,10 +1,10 @@
 -- A Commit above all that has a stamp but Wakes leaves a calm world; the first world.
 use Rattle.std.proofs.Common.{◌≡◌, ℕ, zero, suc, ◌+◌, ◌<◌, inr, ◌==◌, Bool, true, false, cond, not, List, [], ◌∷◌, ◌++◌, map, filter, length, get_or, refl, arith, ap, sym, ◌∙◌, subst, Option, Some, None}
+use Rattle.std.proofs.lemmas.Bool.Decides.{nat_tests}
 use Rattle.std.proofs.lemmas.List.{get_or-map, length-map}
 use Rattle.pm_alp.specs.Agents.{agent_committed, no_agent, wake_of}
 use Rattle.pm_alp.specs.declared.agent.Agent.{Agent}
 use Rattle.pm_base.specs.Stamps.{IsBefore}
-use Rattle.pm_base.specs.declared.rows.Act.{Act}
 use Rattle.pm_base.specs.declared.rows.Parts.{Parts}
 use Rattle.pm_base.specs.declared.rows.PutRow.{PutRow}
 use Rattle.pm_base.specs.declared.rows.ReadRow.{ReadRow}
@@ -13,27 +13,32 @@ use Rattle.pm_base.specs.declared.stamp.Num.{Num}
 use Rattle.pm_base.specs.declared.stamp.Stamp.{Stamp}
 use Rattle.pm_base.specs.declared.value.Value.{Value}
 use Rattle.pm_base.specs.declared.value.Window.{Window}
+use Rattle.pm_calm.proofs.Phasing.{IsWake, wakes_none}
 use Rattle.pm_calm.specs.Phases.{Calm, MailAt, Over, Phase, is_over}
 use Rattle.pm_calm.specs.Phases.Phase.{Idle}
-use Rattle.pm_clp.specs.Clps.{clp_committed, first_records, floor_of, rec_at}
+use Rattle.pm_clp.specs.Clps.{ClpState, clp_committed, first_parts, first_record, first_records, floor_of, rec_at}
 use Rattle.pm_message.specs.Messages.{stamp_of}
 use Rattle.pm_message.specs.declared.Message.{Message}
 use Rattle.pm_model.specs.declared.State.{State}
+use Rattle.pm_periods.specs.Records.{IsSettled}
+use Rattle.pm_plan.specs.declared.plan.AgentRow.{AgentRow}
 use Rattle.pm_plan.specs.declared.plan.Plan.{Plan}
+use Rattle.pm_plan.specs.declared.plan.VarRow.{VarRow}
+use Rattle.pm_routes.specs.declared.way.Way.{Way}
+use Rattle.pm_routes.specs.declared.way.Way.TheVariants as way
 use Rattle.pm_queries.specs.declared.registered.Registered.{Registered}
 use Rattle.pm_saved.specs.Steps.{keep_one, left_of}
+use Rattle.pm_saved.specs.declared.kept.KeptAct.{KeptAct}
 use Rattle.pm_saved.specs.declared.kept.KeptStep.{KeptStep}
 use Rattle.pm_sim.proofs.Firsts.{PlanFits, clp_is, mail_is, no_queries}
 use Rattle.pm_sim.proofs.Fulls.{Full}
-use Rattle.pm_sim.proofs.Letters.{process_self}
 use Rattle.pm_sim.proofs.Lines.{trim_at, trim_some}
 use Rattle.pm_sim.proofs.Places.{clp_at}
 use Rattle.pm_sim.proofs.Stamps.{before_not, past_not, past_true}
 use Rattle.pm_sim.proofs.Trims.{in_filter}
-use Rattle.pm_sim.proofs.Wires.{process_not}
 use Rattle.pm_sim.specs.Bounds.{between}
 use Rattle.pm_sim.specs.Sims.{In, NotPast, is_past, st}
-use Rattle.pm_sim.specs.Worlds.{Link, Mail, Process, World, agent_links, clps_of, commit, first_world, is_process, mail, no_clp, ports, tree_links}
+use Rattle.pm_sim.specs.Worlds.{Link, Mail, Process, World, agent_links, clps_of, commit, first_actors, first_way, first_world, mail, no_clp, ports, tree_links}
 use Rattle.pm_sim.specs.Worlds.Process.{AtAgent, AtClp}
 use Rattle.pm_message.specs.declared.Message.TheVariants as message
 use Rattle.pm_base.specs.declared.stamp.Line.TheVariants as line
@@ -52,7 +57,7 @@ left_in : (l : Line) (ss : List KeptStep) (z : KeptStep) → In z (left_of l ss)
 left_in l [] z j = j
 left_in l (s ∷ ss) z j = (let again = left_in l ss z in go (is_past l s.stamp) s.act again j)
   where
-    go : (b : Bool) (o : Option Act) → (In z (left_of l ss) → In z ss) → In z (keep_one b s o ss (left_of l ss)) → In z (s ∷ ss)
+    go : (b : Bool) (o : Option KeptAct) → (In z (left_of l ss) → In z ss) → In z (keep_one b s o ss (left_of l ss)) → In z (s ∷ ss)
     go b None again j = j
     go false (Some a) again j = j
     go true (Some a) again j = inr (again j)
@@ -72,7 +77,7 @@ calm_commit p q w k full old = record {
     records = λ v r er. (let o = trim_some (line.At k) (rec_at (clp_at w c).records v) r (sym (trim_at (line.At k) (clp_at w c).records v) ∙ (ap (λ (z : ClpState). rec_at z.records v) (sym is) ∙ er)) in record {
       puts = λ x i. absurd (kept_not (λ (y : PutRow). y.stamp) k o.0.puts x (subst (λ (z : Parts). In x z.puts) o.2 i) (old.puts c v o.0 lc o.1));
       reads = λ x i. absurd (kept_not (λ (y : ReadRow). y.stamp) k o.0.reads x (subst (λ (z : Parts). In x z.reads) o.2 i) (old.reads c v o.0 lc o.1));
-      own = (let e = (full.sim.places.at c v r lc er).1 in subst (λ (y : Parts). (x : ReadRow) → In x y.reads → x.hit ≡ hit_of y x) (sym e) (full.sim.core.rec v).settled);
+      solid = (let e = (full.sim.places.at c v r lc er).1 in subst IsSettled (sym e) (full.sim.core.rec v).solid);
       silent = λ n j u b. absurd b;
     });
     stamps = λ r i. absurd (kept_not (λ (y : Registered). y.stamp) k (clp_at w c).queries r (subst (λ (z : ClpState). In r z.queries) is i) (λ y j. old.regs c y lc j));
@@ -115,33 +120,44 @@ calm_old p w s k os ph calm size b np = record {
 
 -- ---- the first world
 
-first_rows : (c : ℕ) (ats : List ℕ) (vs : List Value) (v : ℕ) (r : Parts) → rec_at (first_records c ats vs) v ≡ Some r → (r.puts ≡ []) × (r.reads ≡ [])
-first_rows c [] vs v r e = absurd (cc)
-first_rows c (a ∷ ats) [] v r e = absurd (cc)
-first_rows c (a ∷ ats) (x ∷ vs) zero r e = one (a == c) e
+first_rows : (ways : List Way) (vs : List Value) (v : ℕ) (r : Parts) → rec_at (first_records ways vs) v ≡ Some r
+    → (r.puts ≡ []) × (r.reads ≡ [])
+first_rows [] vs v r e = absurd (cc)
+first_rows (y ∷ ys) [] v r e = absurd (cc)
+first_rows (y ∷ ys) (x ∷ vs) zero r e = one y e
   where
-    one : (b : Bool) → cond b (Some (record { base = x; puts = []; cuts = []; reads = [] })) None ≡ Some r → (r.puts ≡ []) × (r.reads ≡ [])
-    one true f = (let g : record { base = x; puts = []; cuts = []; reads = [] } ≡ r = cc in (sym (ap (λ (z : Parts). z.puts) g), sym (ap (λ (z : Parts). z.reads) g)))
-    one false f = absurd (cc)
-first_rows c (a ∷ ats) (x ∷ vs) (suc v) r e = first_rows c ats vs v r e
+    one : (y : Way) → first_record y x ≡ Some r → (r.puts ≡ []) × (r.reads ≡ [])
+    one way.Here f = (let g : first_parts x ≡ r = cc in
+        (sym (ap (λ (z : Parts). z.puts) g), sym (ap (λ (z : Parts). z.reads) g)))
+    one (way.Port d) f = absurd (cc)
+first_rows (y ∷ ys) (x ∷ vs) (suc v) r e = first_rows ys vs v r e
 
-no_steps : (p : Plan) (j : ℕ) (as' : List AgentPlan) (i : ℕ) → (get_or (first_agents p j as') i no_agent).steps ≡ []
+no_steps : (p : Plan) (j : ℕ) (rows : List AgentRow) (i : ℕ) → (get_or (first_actors p j rows) i no_agent).steps ≡ []
 no_steps p j [] i = refl
-no_steps p j (a ∷ as') zero = refl
-no_steps p j (a ∷ as') (suc i) = no_steps p (j + 1) as' i
+no_steps p j (a ∷ rows) zero = refl
+no_steps p j (a ∷ rows) (suc i) = no_steps p (suc j) rows i
 
-own_agents : (p : Plan) (as' : List Agent) (j i : ℕ) → i < length as' → between (AtAgent (j + i)) (AtAgent (j + i)) (agent_links p j as') ≡ wake_of (get_or as' i no_agent).awaited
+own_agents : (p : Plan) (xs : List Agent) (j i : ℕ) → i < length xs
+    → between (AtAgent (j + i)) (AtAgent (j + i)) (agent_links p j xs) ≡ wake_of (get_or xs i no_agent).awaited
 own_agents p [] j i lt = absurd (omega arith)
-own_agents p (a ∷ as') j zero lt = (let e : is_process (AtAgent j) (AtAgent (j + 0)) ≡ true = (let f : AtAgent j ≡ AtAgent (j + 0) = ap AtAgent (omega arith) in ap (is_process (AtAgent j)) (sym f) ∙ process_self (AtAgent j)) in rw e refl)
-own_agents p (a ∷ as') j (suc i) lt = (let e : is_process (AtAgent j) (AtAgent (j + suc i)) ≡ false = process_not (AtAgent j) (AtAgent (j + suc i)) (λ f. let g : j ≡ j + suc i = cc in omega arith) in
-    rw e (subst (λ z. between (AtAgent z) (AtAgent z) (agent_links p (j + 1) as') ≡ wake_of (get_or as' i no_agent).awaited) (omega arith) (own_agents p as' (j + 1) i (omega arith))))
+own_agents p (a ∷ xs) j zero lt = (let b : (j == j + 0) ≡ true = grind (arith, nat_tests) in rw b refl)
+own_agents p (a ∷ xs) j (suc i) lt =
+    let b : (j == j + suc i) ≡ false = grind (arith, nat_tests) in
+    let again = own_agents p xs (suc j) i (omega arith) in
+    let k : (suc j) + i ≡ j + suc i = omega arith in
+    rw b (subst (λ z. between (AtAgent z) (AtAgent z) (agent_links p (suc j) xs)
+    ≡ wake_of (get_or xs i no_agent).awaited) k again)
 
-own_tree : (p : Plan) (c n a : ℕ) (ls : List Link) → between (AtAgent a) (AtAgent a) (tree_links p c n ++ ls) ≡ between (AtAgent a) (AtAgent a) ls
+own_tree : (p : Plan) (c n a : ℕ) (ls : List Link)
+    → between (AtAgent a) (AtAgent a) (tree_links p c n ++ ls) ≡ between (AtAgent a) (AtAgent a) ls
 own_tree p c zero a ls = refl
 own_tree p c (suc n) a ls = over (ports p c) (own_tree p (suc c) n a ls)
   where
-    over : (ds : List ℕ) → between (AtAgent a) (AtAgent a) (tree_links p (suc c) n ++ ls) ≡ between (AtAgent a) (AtAgent a) ls
-        → between (AtAgent a) (AtAgent a) ((map (λ d. record { to = AtClp c; from = AtClp d; messages = [] }) ds ++ tree_links p (suc c) n) ++ ls) ≡ between (AtAgent a) (AtAgent a) ls
+    over : (ds : List ℕ)
+        → between (AtAgent a) (AtAgent a) (tree_links p (suc c) n ++ ls) ≡ between (AtAgent a) (AtAgent a) ls
+        → between (AtAgent a) (AtAgent a)
+        ((map (λ d. record { to = AtClp c; from = AtClp d; messages = [] }) ds ++ tree_links p (suc c) n) ++ ls)
+        ≡ between (AtAgent a) (AtAgent a) ls
     over [] h = h
     over (d ∷ ds) h = over ds h
 
@@ -152,9 +168,17 @@ first_old p fit size k = record {
   reads = λ c v r lc er x i. absurd (subst (In x) (rows c v r lc er).1 i);
   regs = λ c r lc i. absurd (subst (In r) (no_queries p fit c lc) i);
   steps = λ i z li j. absurd (subst (In z) (no_steps p 0 p.agents i) j);
-  wakes = λ x i. (let o = mail_is p fit x i in ((record { agent = o.0; seq = 0 }, st o.1 o.0, ap (λ (z : Mail). z.message) o.4), ap (λ (z : Mail). z.from) o.4 ∙ sym (ap (λ (z : Mail). z.to) o.4)));
-  own = λ i li. own_tree p 0 (clps_of p) i (agent_links p 0 (first_agents p 0 p.agents)) ∙ subst (λ z. between (AtAgent z) (AtAgent z) (agent_links p 0 (first_agents p 0 p.agents)) ≡ wake_of (get_or (first_agents p 0 p.agents) i no_agent).awaited) (omega arith) (own_agents p (first_agents p 0 p.agents) 0 i li);
+  wakes = λ x i. (let o = mail_is p fit x i in (
+    (record { agent = o.0; seq = 0 }, st o.1 o.0, ap (λ (z : Mail). z.message) o.4),
+    ap (λ (z : Mail). z.from) o.4 ∙ sym (ap (λ (z : Mail). z.to) o.4),
+  ));
+  own = λ i li. own_tree p 0 (clps_of p) i (agent_links p 0 (first_actors p 0 p.agents))
+      ∙ (let z : 0 + i ≡ i = omega arith in subst (λ z. between (AtAgent z) (AtAgent z)
+      (agent_links p 0 (first_actors p 0 p.agents)) ≡ wake_of (get_or (first_actors p 0 p.agents) i no_agent).awaited) z
+      (own_agents p (first_actors p 0 p.agents) 0 i li));
 }
   where
-    rows : (c v : ℕ) (r : Parts) → c < clps_of p → rec_at (clp_at (first_world p) c).records v ≡ Some r → (r.puts ≡ []) × (r.reads ≡ [])
-    rows c v r lc er = first_rows c p.places p.values v r (ap (λ (z : ClpState). rec_at z.records v) (sym (clp_is p fit c lc)) ∙ er)
+    rows : (c v : ℕ) (r : Parts) → c < clps_of p → rec_at (clp_at (first_world p) c).records v ≡ Some r
+        → (r.puts ≡ []) × (r.reads ≡ [])
+    rows c v r lc er = first_rows (map (first_way p c) p.vars) (map (λ (x : VarRow). x.value) p.vars) v r
+        (ap (λ (z : ClpState). rec_at z.records v) (sym (clp_is p fit c lc)) ∙ er)

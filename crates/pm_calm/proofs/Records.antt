@@ -15,15 +15,17 @@ use Rattle.pm_base.specs.declared.value.Period.{Period}
 use Rattle.pm_base.specs.declared.value.Value.{Value}
 use Rattle.pm_base.specs.declared.value.Window.{Window}
 use Rattle.pm_periods.specs.Periods.{periods_of}
-use Rattle.pm_periods.specs.Records.{changed_of, changed_unless, first_read, hit_by, hit_eq, hit_in, in_value_order, is_live, is_seen, is_stale, next_give, record_hit, record_value, refreshed, refreshed_unless, value_after, value_below, with_put, with_read}
+use Rattle.pm_periods.specs.Records.{IsSettled, changed_of, changed_unless, first_read, hit_by, hit_eq, hit_in, in_value_order, is_live, is_seen, is_stale, next_give, record_hit, record_value, refreshed, refreshed_unless, value_after, value_below, with_put, with_read}
 use Rattle.pm_periods.specs.Rows.{add_row, has_num, key_lt, put_key, read_key}
 use Rattle.pm_plan.specs.declared.plan.Plan.{Plan}
 use Rattle.pm_clp.specs.Clps.{take_put, take_watch}
 use Rattle.pm_periods.proofs.Hits.{hit_eq-self}
+use Rattle.pm_periods.proofs.Receipts.{after_put-settled, after_watch-settled}
 use Rattle.pm_sim.proofs.Letters.{in_map}
+use Rattle.pm_sim.proofs.Lists.{each_in}
 use Rattle.pm_sim.proofs.Stamps.{lt_false}
 use Rattle.pm_sim.proofs.Takes.{add_row_in}
-use Rattle.pm_sim.proofs.Tellings.{add_read_has, add_read_in, given_has, given_hit, given_in, given_stamp}
+use Rattle.pm_sim.proofs.Tellings.{add_read_has, add_read_in, given_has, given_in, given_stamp}
 use Rattle.pm_sim.proofs.Trims.{in_filter}
 use Rattle.pm_sim.specs.Sims.{In, class_at, given, has_read}
 use Rattle.pm_calm.specs.Phases.{RecAt, Silent}
@@ -72,15 +74,9 @@ changed_is v r qs g i =
     let f = in_filter (is_stale (record_value r)) qs o.0 o.1 in
     (o.0, f.0, o.2, f.1)
 
-hit_given : (r : Parts) (q : ReadRow) (h : Option Value) → record_hit r (given q h) ≡ record_hit r q
-hit_given r q h = elim (cases_Bool (hit_eq h q.hit)) [ inl e ↦ rw e refl | inr e ↦ rw e refl ]
-
--- the reads of a record that was refreshed have their hits
-fresh_own : (r : Parts) (x : ReadRow) → In x (refreshed r).reads → x.hit ≡ record_hit (refreshed r) x
-fresh_own r x i =
-    let o = given_in r r.reads x i in
-    ap (λ (z : ReadRow). z.hit) o.2
-    ∙ (given_hit o.0 (record_hit r o.0) ∙ sym (ap (record_hit r) o.2 ∙ hit_given r o.0 (record_hit r o.0)))
+-- the hits of a settled record's reads
+pub own_hit : (r : Parts) → IsSettled r → (x : ReadRow) → In x r.reads → x.hit ≡ record_hit r x
+own_hit r st x i = each_in (λ q. q.hit ≡ record_hit r q) r.reads x st.hits i
 
 fresh_stamp : (r : Parts) (s : Stamp) → ((x : ReadRow) → In x r.reads → x.stamp ≡ s)
     → (x : ReadRow) → In x (refreshed r).reads → x.stamp ≡ s
@@ -96,7 +92,7 @@ module _ (p : Plan) (s : Stamp) (over : Num → ℕ → Window → Type 0) where
   -- a put of s changes no read of s
   pub put_at : (v : ℕ) (x : PutRow) (r : Parts) → x.stamp ≡ s → RecAt p s over v r
       → RecAt p s over v (take_put v x r).rec × ((take_put v x r).gives ≡ [])
-  put_at v x r es h = go (has_num put_key x.num r.puts)
+  put_at v x r es h = go (has_num put_key x.num r.puts) (after_put-settled x r h.solid)
     where
       r0 : Parts
       r0 = with_put x r
@@ -111,20 +107,20 @@ module _ (p : Plan) (s : Stamp) (over : Num → ℕ → Window → Type 0) where
       same q e = ap (λ z. hit_in z q.window) (ap (record_value r) e ∙ (value_base s r h.puts
           ∙ sym (ap (record_value (with_put x r)) e ∙ value_base s (with_put x r) puts0)))
 
-      go : (b : Bool) → RecAt p s over v (refreshed_unless b r (with_put x r))
-          × (changed_unless b v (with_put x r) ≡ [])
-      go true = (h, refl)
-      go false = (
+      go : (b : Bool) → IsSettled (refreshed_unless b r (with_put x r))
+          → RecAt p s over v (refreshed_unless b r (with_put x r)) × (changed_unless b v (with_put x r) ≡ [])
+      go true st = (h, refl)
+      go false st = (
         record {
           puts = puts0;
           reads = fresh_stamp (with_put x r) s h.reads;
-          own = fresh_own (with_put x r);
+          solid = st;
           silent = λ k j u o e. elim (h.silent k j u o e) [
             | inr n ↦ inr n
             | inl i ↦ inl (given_has (with_put x r) k r.reads ∙ i)
           ];
         },
-        quiet v (with_put x r) r.reads (λ q i. h.own q i ∙ same q (h.reads q i)),
+        quiet v (with_put x r) r.reads (λ q i. own_hit r h.solid q i ∙ same q (h.reads q i)),
       )
 
   abbrev pub GivesOf : Num → List GiveRow → Type 0
@@ -134,27 +130,28 @@ module _ (p : Plan) (s : Stamp) (over : Num → ℕ → Window → Type 0) where
   pub watch_at : (v : ℕ) (n : Num) (z : Stamp) (w : Window) (r : Parts) → z ≡ s → RecAt p s over v r
       → RecAt p s over v (take_watch v n z w r).rec
       × (GivesOf n (take_watch v n z w r).gives × (Silent n w r → (take_watch v n z w r).gives ≡ []))
-  watch_at v n z w r es h = go (has_num read_key n r.reads) refl
+  watch_at v n z w r es h = go (has_num read_key n r.reads) refl (after_watch-settled (first_read n z w) r h.solid)
     where
       row : ReadRow
       row = first_read n z w
 
       others : (x : ReadRow) → In x r.reads → x.hit ≡ record_hit (with_read (first_read n z w) r) x
-      others x i = h.own x i
+      others x i = own_hit r h.solid x i
 
       go : (b : Bool) → has_num read_key n r.reads ≡ b
+          → IsSettled (refreshed_unless b r (with_read (first_read n z w) r))
           → RecAt p s over v (refreshed_unless b r (with_read (first_read n z w) r))
           × (GivesOf n (changed_unless b v (with_read (first_read n z w) r))
           × (Silent n w r → changed_unless b v (with_read (first_read n z w) r) ≡ []))
-      go true e = (h, (λ g i. absurd i, λ sl. refl))
-      go false e = (
+      go true e st = (h, (λ g i. absurd i, λ sl. refl))
+      go false e st = (
         record {
           puts = h.puts;
           reads = fresh_stamp (with_read (first_read n z w) r) s (λ x i. elim (add_read_in (first_read n z w) r.reads x i) [
             | inl f ↦ ap (λ (y : ReadRow). y.stamp) f ∙ es
             | inr j ↦ h.reads x j
           ]);
-          own = fresh_own (with_read (first_read n z w) r);
+          solid = st;
           silent = λ k j u o f. elim (h.silent k j u o f) [
             | inr m ↦ inr m
             | inl i ↦ inl (given_has (with_read (first_read n z w) r) k (add_row read_key (first_read n z w) r.reads)
@@ -233,7 +230,7 @@ module _ (p : Plan) (s : Stamp) (over : Num → ℕ → Window → Type 0) where
 
       go : (b : Bool) → length (changed_unless b v (with_read (first_read n z w) r)) ≤ 1
       go true = omega arith
-      go false = once r.reads h.own
+      go false = once r.reads (own_hit r h.solid)
 
 -- the periods behind s of a record whose puts are of s begin at s
 pub periods_at : (s : Stamp) (r : Parts) (ps : List PutRow) → ((x : PutRow) → In x ps → x.stamp ≡ s)

@@ -12,15 +12,16 @@ use Rattle.pm_base.specs.declared.stamp.Num.{Num}
 use Rattle.pm_base.specs.declared.stamp.Stamp.{Stamp}
 use Rattle.pm_base.specs.declared.value.Query.{Query}
 use Rattle.pm_base.specs.declared.value.Window.{Window}
+use Rattle.pm_calm.proofs.Phasing.{IsWake, ask_at, ask_one, asked_at, clp_up, done_at, puts_are, puts_none, wakes_none}
 use Rattle.pm_calm.specs.Phases.{AgentAt, Calm, ClpAt, HasSense, IsFinish, MailAt, OpenIn, OrderIn, Over, Phase, SenseAt, Tidy, asks, is_over, token}
 use Rattle.pm_calm.specs.Phases.Phase.{Idle}
-use Rattle.pm_clp.specs.Views.{asked_at}
 use Rattle.pm_message.specs.declared.Message.{Message}
 use Rattle.pm_model.specs.declared.State.{State}
 use Rattle.pm_plan.specs.declared.plan.Plan.{Plan}
-use Rattle.pm_queries.specs.declared.registered.Sent.{Sent}
+use Rattle.pm_saved.specs.Spots.{later}
 use Rattle.pm_saved.specs.declared.kept.KeptSense.{KeptSense}
 use Rattle.pm_saved.specs.declared.kept.KeptStep.{KeptStep}
+use Rattle.pm_sim.proofs.Lanes.{posted_for, sent_for}
 use Rattle.pm_sim.proofs.Letters.{all_posted, in_map, process_self, sent_mail, taken}
 use Rattle.pm_sim.proofs.Lists.{in_cases, in_right}
 use Rattle.pm_sim.proofs.Places.{Sim, clp_at}
@@ -28,7 +29,7 @@ use Rattle.pm_sim.proofs.Wires.{between_mail, posted_else, took}
 use Rattle.pm_sim.specs.Bounds.{between}
 use Rattle.pm_sim.specs.Routings.{mail_to}
 use Rattle.pm_sim.specs.Sims.{In, tally}
-use Rattle.pm_sim.specs.Worlds.{Mail, Process, Taken, World, actor_of, addressed, clps_of, home, is_process, mail, post_all, take_from}
+use Rattle.pm_sim.specs.Worlds.{Mail, Posted, Process, Taken, World, actor_of, addressed, clps_of, home, is_process, mail, post_all, take_from}
 use Rattle.pm_sim.specs.Worlds.Process.{AtAgent, AtClp}
 use Rattle.pm_step.specs.declared.Next.{Next}
 use Rattle.pm_message.specs.declared.Message.TheVariants as message
@@ -88,15 +89,15 @@ module _ (p : Plan) (q : State) (w : World) (recs : ℕ → Parts) (sim : Sim p 
   -- all but what the new phase makes of what was sent
   build : (ph' : Phase) (r : Sends) → ((m : Message) → In m r.sent → MailAt p s (is_over os') ph' (addressed a (home p a) m).to (AtAgent a) (addressed a (home p a) m).message)
       → tally (λ (x : Mail). token ph' x.message) (sent_mail (AtAgent a) (map (addressed a (home p a)) r.sent)) ≤ 1 → AgentAt s ph' r.agent → OpenIn ph' (after r)
-      → sends_to (AtAgent a) (map (addressed a (home p a)) r.sent) ≡ wake_of r.agent.awaited → Calm p (after r) s os' ph'
+      → sent_for (AtAgent a) (map (addressed a (home p a)) r.sent) ≡ wake_of r.agent.awaited → Calm p (after r) s os' ph'
   build ph' r sent one agent opens own = record {
     line = calm.line;
     clps = λ c lc. clp_up p s (is_over os') ph' (clp_at w c) (closed c lc);
     letters = λ x i. elim ((posted r).out x i) [
       | inr j ↦ wake_mail p s (is_over os) (is_over os') ph ph' x (quiet x j) (calm.letters x (old_in x j))
-      | inl j ↦ (let o = in_map (λ (y : Sent). mail_to y.to (AtAgent a) y.message) (map (addressed a (home p a)) r.sent) x j in
+      | inl j ↦ (let o = in_map (λ (y : Posted). mail_to y.to (AtAgent a) y.message) (map (addressed a (home p a)) r.sent) x j in
           let o2 = in_map (addressed a (home p a)) r.sent o.0 o.1 in
-          subst (λ (y : Mail). MailAt p s (is_over os') ph' y.to y.from y.message) (sym (o.2 ∙ ap (λ (y : Sent). mail_to y.to (AtAgent a) y.message) o2.2)) (sent o2.0 o2.1))
+          subst (λ (y : Mail). MailAt p s (is_over os') ph' y.to y.from y.message) (sym (o.2 ∙ ap (λ (y : Posted). mail_to y.to (AtAgent a) y.message) o2.2)) (sent o2.0 o2.1))
     ];
     tokens = (let c = (posted r).count (λ (x : Mail). token ph' x.message) in let z = wakes_none ph' (mail t.links) quiet in omega arith);
     agents = λ i li. elim (cases_eq i a) [
@@ -107,7 +108,7 @@ module _ (p : Plan) (q : State) (w : World) (recs : ℕ → Parts) (sim : Sim p 
     opens = opens;
     own = λ i li. elim (cases_eq i a) [
       | inl f ↦ subst (λ z. between (AtAgent z) (AtAgent z) (after r).links ≡ wake_of (get_or (set w.agents a r.agent) z no_agent).awaited) (sym f)
-          (posted_any (AtAgent a) (AtAgent a) (map (addressed a (home p a)) r.sent) t.links ∙ (ap (λ z. z ++ sends_to (AtAgent a) (map (addressed a (home p a)) r.sent)) empty ∙ (own ∙ ap (λ (z : Agent). wake_of z.awaited) (sym (get_or-set_same w.agents a r.agent no_agent la)))))
+          (posted_for (AtAgent a) (AtAgent a) (map (addressed a (home p a)) r.sent) t.links ∙ (ap (λ z. z ++ sent_for (AtAgent a) (map (addressed a (home p a)) r.sent)) empty ∙ (own ∙ ap (λ (z : Agent). wake_of z.awaited) (sym (get_or-set_same w.agents a r.agent no_agent la)))))
       | inr ne ↦ posted_else (AtAgent a) (AtAgent i) (AtAgent i) (map (addressed a (home p a)) r.sent) t.links (λ g. ne (same_agent i a g)) ∙ ((took (AtAgent a) from w.links t e).others (AtAgent i) (AtAgent i) (λ g. ne (same_agent i a g.0))
           ∙ (calm.own i (let l = length-set w.agents a r.agent in omega arith) ∙ ap (λ (z : Agent). wake_of z.awaited) (sym (get_or-set_other w.agents a i r.agent no_agent ne))))
     ];
@@ -191,17 +192,17 @@ module _ (p : Plan) (q : State) (w : World) (recs : ℕ → Parts) (sim : Sim p 
       sent : (c : Bool) (m : Message) → In m (act_sends a base front s done ag.seq d c).sent → MailAt p s (is_over os') Idle (addressed a (home p a) m).to (AtAgent a) (addressed a (home p a) m).message
       sent c m i = elim (in_cases (puts_of a s ag.seq d.writes) (wake_of (next_wake c a s ag.seq d)) m i) [
         | inr j ↦ wakes (next_wake c a s ag.seq d) m j
-        | inl j ↦ (let o = puts_are a s ag.seq d.writes m j in subst (λ z. MailAt p s (is_over os') Idle (addressed a (home p a) z).to (AtAgent a) (addressed a (home p a) z).message) (sym o.2) (o.3, tt))
+        | inl j ↦ (let o = puts_are a s ag.seq d.writes m j in subst (λ z. MailAt p s (is_over os') Idle (addressed a (home p a) z).to (AtAgent a) (addressed a (home p a) z).message) (sym o.3) (refl, tt))
       ]
 
-      to_self : (o : Option Awaited) → sends_to (AtAgent a) (map (addressed a (home p a)) (wake_of o)) ≡ wake_of o
+      to_self : (o : Option Awaited) → sent_for (AtAgent a) (map (addressed a (home p a)) (wake_of o)) ≡ wake_of o
       to_self None = refl
       to_self (Some x) = (let f : is_process (AtAgent a) (AtAgent a) ≡ true = process_self (AtAgent a) in rw f refl)
 
-      own : (c : Bool) → sends_to (AtAgent a) (map (addressed a (home p a)) (act_sends a base front s done ag.seq d c).sent) ≡ wake_of (next_wake c a s ag.seq d)
-      own c = ap (sends_to (AtAgent a)) (map-append (addressed a (home p a)) (puts_of a s ag.seq d.writes) (wake_of (next_wake c a s ag.seq d))) ∙ (puts_none a (home p a) s ag.seq d.writes (map (addressed a (home p a)) (wake_of (next_wake c a s ag.seq d))) ∙ to_self (next_wake c a s ag.seq d))
+      own : (c : Bool) → sent_for (AtAgent a) (map (addressed a (home p a)) (act_sends a base front s done ag.seq d c).sent) ≡ wake_of (next_wake c a s ag.seq d)
+      own c = ap (sent_for (AtAgent a)) (map-append (addressed a (home p a)) (puts_of a s ag.seq d.writes) (wake_of (next_wake c a s ag.seq d))) ∙ (puts_none a (home p a) s ag.seq d.writes (map (addressed a (home p a)) (wake_of (next_wake c a s ag.seq d))) ∙ to_self (next_wake c a s ag.seq d))
 
   -- going on
   pub goes : (out : Next) → (ph' : Phase) × Calm p (after (went_on (actor_of p a) base front s done ag.seq out)) s os' ph' × OrderIn ph' p (after (went_on (actor_of p a) base front s done ag.seq out))
   goes (outcome.Ask y) = (let o = asked y (went_on (actor_of p a) base front s done ag.seq (outcome.Ask y)) refl in (asks new y, o.0, o.1))
-  goes (outcome.Act d) = (Idle, acted d (nat_le (s.time + d.wait) p.horizon), tt)
+  goes (outcome.Act d) = (Idle, acted d (nat_le (later s.time d.wait) p.horizon), tt)

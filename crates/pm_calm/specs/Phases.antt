@@ -12,7 +12,7 @@ use Rattle.pm_base.specs.declared.value.Query.TheVariants as query
 use Rattle.pm_base.specs.declared.value.Window.{Window}
 use Rattle.pm_message.specs.declared.Message.{Message}
 use Rattle.pm_message.specs.declared.Message.TheVariants as message
-use Rattle.pm_periods.specs.Records.{hit_in, record_hit}
+use Rattle.pm_periods.specs.Records.{IsSettled, hit_in}
 use Rattle.pm_plan.specs.declared.plan.Plan.{Plan}
 use Rattle.pm_saved.specs.declared.kept.KeptSense.{KeptSense}
 use Rattle.pm_saved.specs.declared.kept.KeptStep.{KeptStep}
@@ -40,7 +40,7 @@ Silent k u r = (has_read k r.reads ≡ true) ⊎ (hit_in r.base u ≡ None)
 pub record RecAt (p : Plan) (s : Stamp) (over : Num → ℕ → Window → Type 0) (v : ℕ) (r : Parts) : Type 0 where
   pub puts : (x : PutRow) → In x r.puts → x.stamp ≡ s
   pub reads : (x : ReadRow) → In x r.reads → x.stamp ≡ s
-  pub own : (x : ReadRow) → In x r.reads → x.hit ≡ record_hit r x
+  pub solid : IsSettled r
   pub silent : (k : Num) (j : ℕ) (u : Window) → over k j u → class_at p v ≡ j → Silent k u r
 
 abbrev pub AskAt : Phase → (Num → ℕ → Window → Type 0) → Process → Num → Query → Type 0
