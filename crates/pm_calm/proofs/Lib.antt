@@ -3,3 +3,5 @@ pub mod Firsts
 pub mod Rounds
 pub mod Goings
 pub mod Endings
+pub mod Fast
+pub mod Rows
