@@ -53,16 +53,12 @@ begun_more : (j : List Event) (e : Event) → is_begun (j ++ e ∷ []) ≡ true
 begun_more [] e = refl
 begun_more (x ∷ j) e = refl
 
-some_pair : (a b c d : ℕ) → Some (a, b) ≡ Some (c, d) → (a ≡ c) × (b ≡ d)
-some_pair a b c d e = (ap (first_of 0) e, ap (second_of 0) e)
+some_pair : (q r : ℕ × ℕ) → Some q ≡ Some r → q ≡ r
+some_pair q r e = ap (pair_in q) e
   where
-    first_of : ℕ → Option (ℕ × ℕ) → ℕ
-    first_of z None = z
-    first_of z (Some q) = q.0
-
-    second_of : ℕ → Option (ℕ × ℕ) → ℕ
-    second_of z None = z
-    second_of z (Some q) = q.1
+    pair_in : ℕ × ℕ → Option (ℕ × ℕ) → ℕ × ℕ
+    pair_in z None = z
+    pair_in z (Some x) = x
 
 none_some : (q : ℕ × ℕ) → None ≡ Some q → ⊥
 none_some q e = cc
@@ -83,7 +79,12 @@ link_mail p w to from l = go (least_mail p w) l
     go : (o : Option Mail) → ends_of p o ≡ Some (to, from)
         → (x : Mail) × (o ≡ Some x) × (number p x.to ≡ to) × (number p x.from ≡ from)
     go None e = absurd (none_some (to, from) e)
-    go (Some x) e = (let k = some_pair (number p x.to) (number p x.from) to from e in (x, refl, k.0, k.1))
+    go (Some x) e = (let k = some_pair (number p x.to, number p x.from) (to, from) e in (
+      x,
+      refl,
+      ap (λ (z : ℕ × ℕ). z.0) k,
+      ap (λ (z : ℕ × ℕ). z.1) k,
+    ))
 
 module _ (budget : ℕ) (p : Plan) (valid : IsValid p) where
   under_reached : (n : ℕ) (w : World) (j : List Event) → Underway budget p n w j → Reached p n w
@@ -115,7 +116,8 @@ module _ (budget : ℕ) (p : Plan) (valid : IsValid p) where
   committed_on n w j u ne c =
       let x = some_mail p w ne in
       let k = under_kept n w j u in
-      one_more n n w j (event.Commit (least_line w)) u (least_may p w k) (omega arith) u.within
+      one_more n n w j (event.Commit (least_line w)) u (least_may p w k)
+      (let z : n + 0 ≡ n = omega arith in z) u.within
       (subst (λ o. lowest_from (budget - n) p w (is_begun j) o
       ≡ event.Commit (least_line w) ∷ lowest_from (budget - n) p (commit w (least_line w)) true o)
       (sym x.1) (begins_open (budget - n) p w (is_begun j) x.0 c))
@@ -138,7 +140,8 @@ module _ (budget : ℕ) (p : Plan) (valid : IsValid p) where
       ∙ (begins_taking (budget - suc n) p w (is_begun j) x.0 c
       ∙ (ap (λ z. z ∷ lowest_on (budget - suc n) p (deliver p w x.0.to x.0.from) true) e
       ∙ ap (λ z. event.Deliver to from ∷ lowest_on (budget - suc n) p z true) (sym next))) in
-      one_more n (suc n) w j (event.Deliver to from) u ok (omega arith) (omega arith)
+      one_more n (suc n) w j (event.Deliver to from) u ok
+      (let z : n + 1 ≡ suc n = omega arith in z) (omega arith)
       (let s : budget - n ≡ suc (budget - suc n) = omega arith in
       subst (λ z. lowest_on z p w (is_begun j)
       ≡ event.Deliver to from ∷ lowest_on (budget - suc n) p (after_event p w (event.Deliver to from)) true) (sym s) goes)

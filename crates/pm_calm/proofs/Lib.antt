@@ -4,4 +4,16 @@ pub mod Rounds
 pub mod Goings
 pub mod Endings
 pub mod Fast
-pub mod Rows
+pub mod Computed
+pub mod Records
+pub mod Acts
+pub mod Sending
+pub mod ClpWorlds
+pub mod ClpOrders
+pub mod Phasing
+pub mod Rests
+pub mod Finds
+pub mod Agents
+pub mod Commits
+pub mod Steps
+pub mod Runs

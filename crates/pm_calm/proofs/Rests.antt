@@ -12,17 +12,17 @@ use Rattle.pm_base.specs.declared.stamp.Num.{Num}
 use Rattle.pm_base.specs.declared.stamp.Stamp.{Stamp}
 use Rattle.pm_base.specs.declared.value.Query.{Query}
 use Rattle.pm_base.specs.declared.value.Window.{Window}
-use Rattle.pm_calm.proofs.Phasing.{IsWake, ask_at, ask_one, asked_at, clp_up, done_at, puts_are, puts_none, wakes_none}
-use Rattle.pm_calm.specs.Phases.{AgentAt, Calm, ClpAt, HasSense, IsFinish, MailAt, OpenIn, OrderIn, Over, Phase, SenseAt, Tidy, asks, is_over, token}
+use Rattle.pm_calm.proofs.Phasing.{IsWake, ask_at, ask_one, asked_at, asks, clp_up, done_at, puts_are, puts_none, wakes_none}
+use Rattle.pm_calm.specs.Phases.{AgentAt, Calm, ClpAt, HasSense, IsFinish, MailAt, OpenIn, OrderIn, Over, Phase, SenseAt, Tidy, is_over, token}
 use Rattle.pm_calm.specs.Phases.Phase.{Idle}
 use Rattle.pm_message.specs.declared.Message.{Message}
 use Rattle.pm_model.specs.declared.State.{State}
 use Rattle.pm_plan.specs.declared.plan.Plan.{Plan}
-use Rattle.pm_saved.specs.Spots.{later}
+use Rattle.pm_model.specs.Runs.{later}
 use Rattle.pm_saved.specs.declared.kept.KeptSense.{KeptSense}
 use Rattle.pm_saved.specs.declared.kept.KeptStep.{KeptStep}
 use Rattle.pm_sim.proofs.Lanes.{posted_for, sent_for}
-use Rattle.pm_sim.proofs.Letters.{all_posted, in_map, process_self, sent_mail, taken}
+use Rattle.pm_sim.proofs.Letters.{More, all_posted, in_map, process_self, sent_mail, taken}
 use Rattle.pm_sim.proofs.Lists.{in_cases, in_right}
 use Rattle.pm_sim.proofs.Places.{Sim, clp_at}
 use Rattle.pm_sim.proofs.Wires.{between_mail, posted_else, took}

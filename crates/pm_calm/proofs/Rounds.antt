@@ -1,5 +1,5 @@
 -- The lowest run is legal, and goes on one event after another.
-use Rattle.std.proofs.Common.{◌≡◌, ℕ, zero, suc, ◌+◌, ◌-◌, ◌<◌, ◌≤◌, inl, inr, Bool, true, false, not, ◌&&◌, List, [], ◌∷◌, ◌++◌, refl, arith, ap, sym, ◌∙◌, subst, Option, Some, None, append-nil, append_assoc}
+use Rattle.std.proofs.Common.{◌≡◌, ℕ, zero, suc, ◌+◌, ◌-◌, ◌<◌, ◌≤◌, inl, inr, Bool, true, false, not, ◌&&◌, List, [], ◌∷◌, ◌++◌, length, refl, arith, ap, sym, ◌∙◌, subst, Option, Some, None, append-nil, append_assoc}
 use Rattle.std.proofs.lemmas.Bool.{cases_Bool, and_parts}
 use Rattle.pm_base.specs.declared.rows.Entry.{Entry}
 use Rattle.pm_base.specs.declared.run.Event.{Event}
@@ -77,7 +77,8 @@ module _ (p : Plan) (w : World) (k : Kept p w) where
   ends_in x i =
       let b = head_between w.links k.awake.lanes x i in
       let key = between_key x.to x.from w.links x.message b.0 b.1 in
-      (key_ok p k.whole.full.sim.tree x.to x.from (subst (In (x.to, x.from)) k.awake.links key)).1
+      let r = key_ok p k.whole.full.sim.tree x.to x.from (subst (In (x.to, x.from)) k.awake.links key) in
+      (r.1, r.2)
 
   pub names : (x : Mail) → In x (heads w.links)
       → (process p (number p x.to) ≡ x.to) × (process p (number p x.from) ≡ x.from)

@@ -5,7 +5,7 @@ ghost use Rattle.pm_base.specs.declared.run.Event.{Event};
 ghost use Rattle.pm_plan.specs.Plans.{IsValid};
 ghost use Rattle.pm_plan.specs.declared.plan.Plan.{Plan};
 ghost use Rattle.pm_sim.specs.Worlds.{World};
-ghost use Rattle.pm_calm.specs.Calm.{LowestEnds, LowestIsLegal};
+ghost use Rattle.pm_calm.specs.Calm.{LowestEnds, LowestIsCalm, LowestIsLegal};
 ghost use Rattle.pm_calm.specs.Lowest.{LeastLinkOf, LowestSteps};
 
 /// The link whose first message comes before those of all others is the least link, and there is none exactly where no
@@ -23,6 +23,13 @@ pub fn the_lowest_run_goes_on()
 /// The lowest run with any budget, and each list of events that it begins with, is a legal run.
 pub fn the_lowest_run_is_legal()
     ensures legal { (budget : ℕ) (p : Plan) (j : Seq Event) → IsValid p → LowestIsLegal budget p j }
+{}
+
+/// It never rolls back: no anti-message is ever on its way, every message but a Wake has the moment of the line, each
+/// delivery takes a message of the least moment, which is the line's, each hit that an agent takes is for a sense that
+/// isn't complete, and each Commit stands at the least line.
+pub fn the_lowest_run_never_rolls_back()
+    ensures calm { (budget : ℕ) (p : Plan) (j : Seq Event) → IsValid p → LowestIsCalm budget p j }
 {}
 
 /// It ends with no message left and all committed, or with its budget spent and a message left.

@@ -1,4 +1,4 @@
-use Rattle.pm_calm.proofs.Rows.{late_write_row}
+use Rattle.pm_calm.proofs.Computed.{late_write_row}
 use Rattle.pm_calm.proofs.rows.a_write_in_time.Goals as goal
 
 pub returns : goal.returns
