@@ -593,17 +593,22 @@ pub clp_good : (p : Plan) (c : ℕ) (s : Stamp) (over : Num → ℕ → Window �
     → OfRange p → process p (number p f) ≡ f → MailAt p s over ph (AtClp c) f m
     → (x : ClpState) → ClpAt p s over ph x → Good p c s over ph (one_if (token ph m) 0) (clp_after (hub_of p c) (number p f) m x)
 clp_good p c s over ph f (message.Wake k z) rg nm m x h =
-    more p c s over ph 0 _ _ (omega arith) (still p c s over ph x h)
+    more p c s over ph 0 (one_if (token ph (message.Wake k z)) 0)
+    (clp_after (hub_of p c) (number p f) (message.Wake k z) x) (omega arith) (still p c s over ph x h)
 clp_good p c s over ph f (message.Give g) rg nm m x h = give_good p c s over ph g f m x h
 clp_good p c s over ph f (message.Cut r_n r_t v) rg nm m x h = absurd m
 clp_good p c s over ph f (message.Put r_n r_t v r_c) rg nm m x h =
-    more p c s over ph 0 _ _ (omega arith) (put_good p c s over ph m.1 (number p f) r_n r_t v r_c m.0 x h)
+    more p c s over ph 0 (one_if (token ph (message.Put r_n r_t v r_c)) 0)
+    (clp_after (hub_of p c) (number p f) (message.Put r_n r_t v r_c) x) (omega arith) (put_good p c s over ph m.1 (number p f) r_n r_t v r_c m.0 x h)
 clp_good p c s over ph f (message.Move v z r) rg nm m x h =
-    more p c s over ph 0 _ _ (omega arith) (move_good p c s over ph m.1 (number p f) v z r m.2 x h)
+    more p c s over ph 0 (one_if (token ph (message.Move v z r)) 0)
+    (clp_after (hub_of p c) (number p f) (message.Move v z r) x) (omega arith) (move_good p c s over ph m.1 (number p f) v z r m.2 x h)
 clp_good p c s over ph f (message.Grow k z until u) rg nm m x h =
-    more p c s over ph 0 _ _ (omega arith) (grow_good p c s over ph m.1 (number p f) k z until u m.0 x h)
+    more p c s over ph 0 (one_if (token ph (message.Grow k z until u)) 0)
+    (clp_after (hub_of p c) (number p f) (message.Grow k z until u) x) (omega arith) (grow_good p c s over ph m.1 (number p f) k z until u m.0 x h)
 clp_good p c s over ph f (message.Finish k z) rg nm m x h =
-    more p c s over ph 0 _ _ (omega arith) (finish_good p c s over ph (number p f) k z m.1 x h)
+    more p c s over ph 0 (one_if (token ph (message.Finish k z)) 0)
+    (clp_after (hub_of p c) (number p f) (message.Finish k z) x) (omega arith) (finish_good p c s over ph (number p f) k z m.1 x h)
 clp_good p c s over Idle f (message.Ask k z (query.One v)) rg nm m x h = absurd m.1
 clp_good p c s over (Range n i w) f (message.Ask k z (query.One v)) rg nm m x h = absurd m.1
 clp_good p c s over (Single n i) f (message.Ask k z (query.One v)) rg nm m x h =

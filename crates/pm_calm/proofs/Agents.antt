@@ -41,7 +41,7 @@ use Rattle.pm_sim.specs.Bounds.{BoundsOk, between}
 use Rattle.pm_sim.specs.Covers.{AskedOk}
 use Rattle.pm_sim.specs.Routings.{Begun, FitsAt, IsClp, mail_to, toward}
 use Rattle.pm_sim.specs.Sims.{In, MailOk, NotPast, after, class_at, has_read}
-use Rattle.pm_sim.specs.Worlds.{Mail, Process, Taken, World, actor_of, addressed, clps_of, home, mail, number, post_all, rule_at, take_from}
+use Rattle.pm_sim.specs.Worlds.{Mail, Process, Taken, World, actor_of, addressed, clps_of, home, mail, post_all, process, rule_at, take_from}
 use Rattle.pm_sim.specs.Worlds.Process.{AtAgent, AtClp}
 use Rattle.pm_message.specs.declared.Message.TheVariants as message
 use Rattle.pm_base.specs.declared.value.Query.TheVariants as query

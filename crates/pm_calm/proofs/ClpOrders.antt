@@ -404,7 +404,7 @@ module _ (p : Plan) (q : State) (w : World) (recs : ℕ → Parts) (sim : Sim p 
 
       -- each message.Give that is sent is of n
       calm_give : (to : Process) (g : GiveRow) (y : Sent) → In y D.sent → y.message ≡ message.Give g → g.num ≡ n
-      calm_give to g y h f = (let a = (good p q w recs sim linked s os (Range n i u) calm c lc from t e).1.0 y h in (subst (MailAt p s (is_over os) (Range n i u) (process p y.to) (AtClp c)) f a).1.0)
+      calm_give to g y h f = (let a = (good p q w recs sim linked s os (Range n i u) calm c lc from t e).1.0 y h in (subst (MailAt p s (is_over os) (Range n i u) (process p y.to) (AtClp c)) f a).1)
 
       give_parts : (g h : GiveRow) → message.Give g ≡ message.Give h → g ≡ h
       give_parts g h f = cc

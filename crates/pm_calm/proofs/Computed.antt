@@ -46,7 +46,7 @@ pruned_window_row = lowest_same pruned_window (by_acts pruned_acts) pruned_windo
 abbrev counts : List Hit → List Write
 counts a = record {
   var = 0;
-  change = change.Set (record { x = saturate_signed w64 (part [] field.X a +ℤ pos 1); y = saturate_signed w64 (pos 0) });
+  change = change.Set (record { x = saturate_signed w64 (saturate_signed w64 (part [] field.X a +ℤ pos 1)); y = saturate_signed w64 (pos 0) });
 } ∷ []
 
 counts_up : (cs : List ClassRow) (s : Stamp) (regs : List ℤ) (answers : List (List Hit))
@@ -62,9 +62,9 @@ counting_acts (suc a) = record { agent = suc a; horizon = 2; acts = nothing }
 
 counting_actors : (a : ℕ) → actor_of counting a ≡ counting_acts a
 counting_actors zero =
-    λ i. record { agent = 0; horizon = 2; acts = λ s regs answers. counts_up _ s regs answers i }
+    λ i. record { agent = 0; horizon = 2; acts = λ s regs answers. counts_up counting.layout.classes s regs answers i }
 counting_actors (suc a) =
-    λ i. record { agent = suc a; horizon = 2; acts = λ s regs answers. idle _ s regs answers i }
+    λ i. record { agent = suc a; horizon = 2; acts = λ s regs answers. idle counting.layout.classes s regs answers i }
 
 pub counting_row : lowest 27 counting ≡ counting_lowest
 counting_row = lowest_same counting counting_acts counting_actors 27 ∙ refl

@@ -84,6 +84,10 @@ fresh_stamp r s h x i =
     let o = given_in r r.reads x i in
     ap (λ (z : ReadRow). z.stamp) o.2 ∙ (given_stamp o.0 (record_hit r o.0) ∙ h o.0 o.1)
 
+not_both : (b : Bool) → b ≡ true → not b ≡ true → ⊥
+not_both true e f = cc
+not_both false e f = cc
+
 right : (a b : Bool) → b ≡ true → (a || b) ≡ true
 right true b h = refl
 right false b h = h
@@ -184,9 +188,8 @@ module _ (p : Plan) (s : Stamp) (over : Num → ℕ → Window → Type 0) where
                   ap (λ (y : GiveRow). y.num) o.2 ∙ ap (λ (y : ReadRow). y.num) f,
                   ap (λ (y : GiveRow). y.stamp) o.2 ∙ (ap (λ (y : ReadRow). y.stamp) f ∙ es),
                 )
-                | inr j ↦ absurd (let a : hit_eq (record_hit r0 o.0) o.0.hit ≡ true =
-                    ap (λ y. hit_eq y o.0.hit) (sym (others o.0 j)) ∙ hit_eq-self o.0.hit in
-                    let b : not (hit_eq (record_hit r0 o.0) o.0.hit) ≡ true = o.3 in cc)
+                | inr j ↦ absurd (not_both (hit_eq (record_hit r0 o.0) o.0.hit)
+                    (ap (λ y. hit_eq y o.0.hit) (sym (others o.0 j)) ∙ hit_eq-self o.0.hit) o.3)
               ]
 
   -- and once

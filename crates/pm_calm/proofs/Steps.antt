@@ -314,8 +314,8 @@ module _ (p : Plan) (w : World) (r : Kept p w) (s : Stamp) (os : List Over) (ph 
           go (message.Give g') f et h nw = (let one = tally_in (λ (z : Mail). token (Single n v) z.message) (mail t.links) y i (ap (token (Single n v)) f) in let z = few in omega arith)
           go (message.Finish k z) f et h nw = (let b : MailAt p s (is_over os) (Single n v) y.to y.from (message.Finish k z) = subst (MailAt p s (is_over os) (Single n v) y.to y.from) f letter in subst IsClp et b.1)
           go (message.Ask k z y') f et h nw = h
-          go (Put u y') f et h nw = h
-          go (Cut u y') f et h nw = h
+          go (message.Put r_n r_t u r_c) f et h nw = h
+          go (message.Cut r_n r_t u) f et h nw = h
           go (message.Move u z y') f et h nw = h
           go (message.Grow k z u y') f et h nw = h
 
@@ -328,7 +328,7 @@ module _ (p : Plan) (w : World) (r : Kept p w) (s : Stamp) (os : List Over) (ph 
               let hx : home p a ≡ xo.1 = (subst (LinkOk p (AtAgent a)) xo.2 (subst (λ v. LinkOk p v x.from) ex (r.awake.linked.mail x x_in).0)) in
               let hy : home p a ≡ o.1 = (subst (LinkOk p (AtAgent a)) o.2 (subst (λ v. LinkOk p v y.from) o.0 (r.awake.linked.mail y (was y iy)).0)) in
               let fx : x.from ≡ AtClp o.1 = xo.2 ∙ ap AtClp (sym hx ∙ hy) in
-              let ord : InOrder N n (queries_at w) w.links = subst (λ v. OrderIn v p w) ep order in
+              let ord : InOrder p n (queries_at w) w.links = subst (λ v. OrderIn v p w) ep order in
               let td : Tidy (t.message ∷ between (AtAgent a) x.from t.links) = subst Tidy (took (AtAgent a) x.from w.links t e).head (subst (λ v. Tidy (between (AtAgent a) v w.links)) (sym fx) (ord.tidy (AtAgent a) o.1)) in
               let j : In y.message (between y.to y.from t.links) = mail_between t.links (lanes_taken (AtAgent a) x.from w.links t e r.awake.lanes) y iy in
               let j2 : In y.message (between (AtAgent a) x.from t.links) = subst (λ v. In y.message (between (AtAgent a) v t.links)) (o.2 ∙ sym fx) (subst (λ v. In y.message (between v y.from t.links)) o.0 j) in
@@ -341,8 +341,8 @@ module _ (p : Plan) (w : World) (r : Kept p w) (s : Stamp) (os : List Over) (ph 
           answer (message.Give g) h f nw = tt
           answer (message.Finish k' z') h f nw = tt
           answer (message.Ask k' z' v) h f nw = absurd h
-          answer (Put v y') h f nw = absurd h
-          answer (Cut v y') h f nw = absurd h
+          answer (message.Put r_n r_t v r_c) h f nw = absurd h
+          answer (message.Cut r_n r_t v) h f nw = absurd h
           answer (message.Move v z' y') h f nw = absurd h
           answer (message.Grow k' z' v y') h f nw = absurd h
 
