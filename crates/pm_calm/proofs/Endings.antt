@@ -1,15 +1,18 @@
 -- How the lowest run ends.
-use Rattle.std.proofs.Common.{◌≡◌, ℕ, zero, suc, ◌≤◌, inl, inr, Bool, true, false, List, [], ◌∷◌, ◌++◌, refl, arith, ap, sym, ◌∙◌, subst, Option, Some, None}
+use Rattle.std.proofs.Common.{◌≡◌, ℕ, zero, suc, ◌≤◌, inl, inr, Bool, true, false, List, [], ◌∷◌, ◌++◌, filter, refl, arith, ap, sym, ◌∙◌, subst, Option, Some, None}
 use Rattle.pm_base.specs.declared.run.Event.{Event}
 use Rattle.pm_base.specs.declared.run.Event.TheVariants as event
 use Rattle.pm_base.specs.declared.stamp.Line.TheVariants as line
 use Rattle.pm_plan.specs.Plans.{IsValid}
 use Rattle.pm_plan.specs.declared.plan.Plan.{Plan}
-use Rattle.pm_sim.proofs.Promised.{plan_fits}
+use Rattle.pm_model.specs.Entries.{run_below}
+use Rattle.pm_model.specs.Runs.{sequential_run}
+use Rattle.pm_base.specs.declared.rows.Entry.{Entry}
+use Rattle.pm_sim.proofs.Promised.{committed-sequential, plan_fits}
 use Rattle.pm_sim.specs.Journals.{made}
 use Rattle.pm_sim.specs.Sims.{In}
 use Rattle.pm_sim.specs.Worlds.{Mail, World, after_event, after_events, deliver, first_world, is_legal_run, mail, number}
-use Rattle.pm_calm.specs.Calm.{EndsAt, LowestEnds, LowestIsLegal}
+use Rattle.pm_calm.specs.Calm.{CommitsSequential, EndsAt, LowestCommits, LowestEnds, LowestIsLegal}
 use Rattle.pm_calm.specs.Lowest.{PartOfLowest, commits, least_mail, lowest, lowest_from, opened, opening}
 use Rattle.pm_calm.proofs.Firsts.{head_mail, none_left}
 use Rattle.pm_calm.proofs.Orders.{some_lowest}
@@ -79,3 +82,17 @@ lowest_ends budget p valid =
 pub part_legal : (budget : ℕ) (p : Plan) (j : List Event) → IsValid p → LowestIsLegal budget p j
 part_legal budget p j valid part = legal_left p (first_world p) j part.0
     (subst (λ z. is_legal_run p (first_world p) z ≡ true) (sym part.1) (lowest_legal budget p (plan_fits p valid)))
+
+-- nothing of the sequential run is above the end
+below_end : (p : Plan) → run_below p line.End ≡ sequential_run p
+unfolding run_below
+below_end p = all_kept (sequential_run p)
+  where
+    all_kept : (xs : List Entry) → filter (λ e. true) xs ≡ xs
+    all_kept [] = refl
+    all_kept (x ∷ xs) = ap (λ z. x ∷ z) (all_kept xs)
+
+pub part_commits : (budget : ℕ) (p : Plan) (j : List Event) → IsValid p → LowestCommits budget p j
+part_commits budget p j valid part =
+    let below = committed-sequential p j valid (part_legal budget p j valid part) in
+    record { below = below; all = λ e. below ∙ (ap (run_below p) e ∙ below_end p) }

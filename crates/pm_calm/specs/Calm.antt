@@ -9,13 +9,14 @@ use Rattle.pm_base.specs.declared.stamp.Stamp.{Stamp}
 use Rattle.pm_message.specs.Messages.{stamp_of}
 use Rattle.pm_message.specs.declared.Message.{Message}
 use Rattle.pm_message.specs.declared.Message.TheVariants as message
-use Rattle.pm_plan.specs.Plans.{IsValid}
+use Rattle.pm_model.specs.Entries.{run_below}
+use Rattle.pm_model.specs.Runs.{sequential_run}
 use Rattle.pm_plan.specs.declared.plan.Plan.{Plan}
 use Rattle.pm_saved.specs.Spots.{Spot, find}
 use Rattle.pm_sim.specs.Journals.{AtLeast, made}
 use Rattle.pm_sim.specs.Looks.{agent_of}
 use Rattle.pm_sim.specs.Sims.{In}
-use Rattle.pm_sim.specs.Worlds.{Mail, Process, Taken, World, after_event, after_events, commit, first_world, is_legal_run, least_line, mail, process, take_from}
+use Rattle.pm_sim.specs.Worlds.{Mail, Process, Taken, World, after_event, after_events, commit, committed, first_world, is_legal_run, least_line, mail, process, take_from}
 use Rattle.pm_sim.specs.Worlds.Process.{AtAgent}
 use Rattle.pm_calm.specs.Lowest.{PartOfLowest, lowest}
 
@@ -80,3 +81,12 @@ EndsAt budget j w = ((made j ≤ budget) × (mail w.links ≡ []) × (w.line ≡
 -- how the lowest run ends
 abbrev pub LowestEnds : ℕ → Plan → Type 0
 LowestEnds budget p = EndsAt budget (lowest budget p) (after_events p (first_world p) (lowest budget p))
+
+-- what a run that begins the lowest one has committed is the sequential run below its line, and all of it at the end
+pub record CommitsSequential (p : Plan) (j : List Event) : Type 0 where
+  pub below : committed p j ≡ run_below p (after_events p (first_world p) j).line
+  pub all : (after_events p (first_world p) j).line ≡ line.End → committed p j ≡ sequential_run p
+
+-- so it is of the lowest run, and of each list of events that it begins with
+abbrev pub LowestCommits : ℕ → Plan → List Event → Type 0
+LowestCommits budget p j = PartOfLowest budget p j → CommitsSequential p j

@@ -5,7 +5,7 @@ ghost use Rattle.pm_base.specs.declared.run.Event.{Event};
 ghost use Rattle.pm_plan.specs.Plans.{IsValid};
 ghost use Rattle.pm_plan.specs.declared.plan.Plan.{Plan};
 ghost use Rattle.pm_sim.specs.Worlds.{World};
-ghost use Rattle.pm_calm.specs.Calm.{LowestEnds, LowestIsCalm, LowestIsLegal};
+ghost use Rattle.pm_calm.specs.Calm.{LowestCommits, LowestEnds, LowestIsCalm, LowestIsLegal};
 ghost use Rattle.pm_calm.specs.Lowest.{LeastLinkOf, LowestSteps};
 
 /// The link whose first message comes before those of all others is the least link, and there is none exactly where no
@@ -35,4 +35,9 @@ pub fn the_lowest_run_never_rolls_back()
 /// It ends with no message left and all committed, or with its budget spent and a message left.
 pub fn the_lowest_run_ends()
     ensures ends { (budget : ℕ) (p : Plan) → IsValid p → LowestEnds budget p }
+{}
+
+/// What it has committed is the sequential run below its line, and all of it where the line is the end.
+pub fn the_lowest_run_commits_the_sequential_run()
+    ensures sequential { (budget : ℕ) (p : Plan) (j : Seq Event) → IsValid p → LowestCommits budget p j }
 {}
