@@ -1,8 +1,8 @@
 -- A communication process in the lowest run: what it sends fits the open query, and so does what it keeps.
-use Rattle.std.proofs.Common.{◌≡◌, ℕ, zero, suc, ◌+◌, ◌<◌, ◌≤◌, ◌⊎◌, inl, inr, ◌==◌, ◌&&◌, Bool, true, false, cond, not, List, [], ◌∷◌, ◌++◌, map, filter, length, get_or, set, refl, arith, ap, sym, ◌∙◌, subst, Option, Some, None, get_or-set_other, get_or-set_same, length-set}
-use Rattle.std.proofs.lemmas.Bool.{and_parts, cases_Bool, cond_both, cases_eq}
+use Rattle.std.proofs.Common.{◌≡◌, ℕ, zero, suc, ◌+◌, ◌<◌, ◌≤◌, ◌⊎◌, inl, inr, ◌==◌, Bool, true, false, List, [], ◌∷◌, ◌++◌, map, filter, length, set, refl, arith, ap, sym, ◌∙◌, subst, Option, Some, None, get_or-set_other, get_or-set_same, length-set}
+use Rattle.std.proofs.lemmas.Bool.{cond_both, cases_eq}
 use Rattle.std.proofs.lemmas.Bool.Decides.{nat_tests}
-use Rattle.pm_base.specs.Layouts.{class_of, class_row}
+use Rattle.pm_base.specs.Layouts.{class_row}
 use Rattle.pm_base.specs.Stamps.{num_eq}
 use Rattle.pm_base.specs.Windows.{point_of, whole}
 use Rattle.pm_base.specs.declared.rows.GiveRow.{GiveRow}
@@ -29,7 +29,7 @@ use Rattle.pm_tables.specs.Tables.{grow_at, known_at}
 use Rattle.pm_queries.specs.Queries.{add_reg, ask_of, behind_reg, finish_if, finish_in, finish_one, has, has_reg, without}
 use Rattle.pm_queries.specs.declared.registered.Registered.{Registered}
 use Rattle.pm_queries.specs.declared.registered.Sent.{Sent}
-use Rattle.pm_clp.specs.Clps.{Answered, ClpSends, ClpState, and_then, at_record, catches, catching, caught, clp_after, counting, floor_of, forwards, grow_bound, installed, leaves, leaving, no_clp_sends, on_record, on_way, put_row, queries_watch, rec_at, reg_of, registered, sent_on, take_put, take_watch, tell, tell_from, tell_one, tell_periods, tell_record, telling, to_agent, watch_all, watch_if, way_of, with_count}
+use Rattle.pm_clp.specs.Clps.{Answered, ClpSends, ClpState, and_then, at_record, catches, catching, caught, clp_after, counting, floor_of, forwards, grow_bound, installed, leaves, leaving, no_clp_sends, on_record, on_way, queries_watch, rec_at, reg_of, registered, sent_on, take_put, take_watch, tell, tell_from, tell_one, tell_periods, tell_record, telling, to_agent, watch_all, watch_if, way_of, with_count}
 use Rattle.pm_sim.proofs.Going.{tally_append}
 use Rattle.pm_sim.proofs.Letters.{in_map}
 use Rattle.pm_sim.proofs.Lists.{in_cases}
@@ -271,9 +271,11 @@ module _ (p : Plan) (c : ℕ) (s : Stamp) (over : Num → ℕ → Window → Typ
   catch_good late d k x h =
       plain (record x { queries = map (caught (hub_of p c) x.bound d k) x.queries })
       (map (asked_to d) (filter (catches (hub_of p c) x.bound d k) x.queries)) (caught_good d k x.bound x h)
-      (λ y i. (let o = from y i in subst At (sym o.2) (h.stamps o.0 o.1,
-      ask_late p over ph (AtClp c) o.0.num o.0.class o.0.window late
-      (reg_late p over ph o.0 late (h.regs o.0 o.1)).0 tt)))
+      (λ y i. (let o = from y i in subst At (sym o.2) (
+        h.stamps o.0 o.1,
+        ask_late p over ph (AtClp c) o.0.num o.0.class o.0.window late
+            (reg_late p over ph o.0 late (h.regs o.0 o.1)).0 tt,
+      )))
       (λ y i. (let o = from y i in subst (λ (z : Sent). Plain z.message) (sym o.2) tt))
     where
       from : (y : Sent) → In y (map (asked_to d) (filter (catches (hub_of p c) x.bound d k) x.queries))
@@ -580,8 +582,14 @@ one_good p c s over n i from k z v es ek x h = go (way_of v x)
   where
     go : (y : Way) → Good p c s over (Single n i) 1 (on_way (hub_of p c) y (message.Ask k z (query.One v)) x
         (λ w. and_then (at_record (hub_of p c) v (take_watch v k z whole) w) (counting (hub_of p c) v from)))
-    go (way.Port d) = (h, (only p c s over (Single n i)
-        (record { to = d; message = message.Ask k z (query.One v) }) (es, ek), omega arith))
+    go (way.Port d) = (
+      h,
+      (
+        only p c s over (Single n i)
+            (record { to = d; message = message.Ask k z (query.One v) }) (es, ek),
+        omega arith,
+      ),
+    )
     go way.Here = chain p c s over (Single n i) 1 0 (at_record (hub_of p c) v (take_watch v k z whole) x)
         (counting (hub_of p c) v from)
         (takes p c s over (Single n i) 1 v (take_watch v k z whole) (λ r a. (let o = watch_at p s over v k z whole r es a in

@@ -1,6 +1,6 @@
 -- The order of a class query's answers, over a communication process's delivery.
 use Rattle.std.proofs.Common.{◌≡◌, ℕ, zero, suc, ◌+◌, ◌<◌, ◌⊎◌, inl, inr, ◌==◌, Bool, true, false, cond, not, ◌&&◌, List, [], ◌∷◌, ◌++◌, map, filter, length, get_or, refl, arith, ap, sym, ◌∙◌, subst, Option, Some, None, get_or-set_other, get_or-set_same, append-nil}
-use Rattle.std.proofs.lemmas.Bool.{cases_eq, cases_Bool, cond_both, and_parts}
+use Rattle.std.proofs.lemmas.Bool.{cases_eq, cases_Bool, and_parts}
 use Rattle.std.proofs.lemmas.Bool.Decides.{nat_tests}
 use Rattle.pm_base.specs.Layouts.{class_row}
 use Rattle.pm_base.specs.Stamps.{num_eq}
@@ -14,8 +14,6 @@ use Rattle.pm_base.specs.declared.value.Window.{Window}
 use Rattle.pm_message.specs.declared.Message.{Message}
 use Rattle.pm_message.specs.declared.Message.TheVariants as message
 use Rattle.pm_model.specs.declared.State.{State}
-use Rattle.pm_plan.specs.Plans.{parents}
-use Rattle.pm_plan.specs.Trees.{hop}
 use Rattle.pm_plan.specs.declared.plan.Plan.{Plan}
 use Rattle.pm_queries.specs.Queries.{add_reg, ask_of, finish_if, finish_in, finish_one, has, has_reg, without}
 use Rattle.pm_queries.specs.declared.registered.Registered.{Registered}
@@ -352,7 +350,7 @@ module _ (p : Plan) (q : State) (w : World) (recs : ℕ → Parts) (sim : Sim p 
           | inl o ↦ up_to d y (order.gives d y g (less (AtClp d) (AtClp y) (message.Give g) o))
           | inr o ↦ elim (split o.1 o.2) [
             | inl v ↦ (let gn : g.num ≡ n = (let l = calm_give (AtClp d) g o.1 o.2 (sym o.4) in l) in
-                                let same : g ≡ v.0 = give_parts g v.0 (o.4 ∙ ap (λ (a : Sent). a.message) v.1) in
+                let same : g ≡ v.0 = give_parts g v.0 (o.4 ∙ ap (λ (a : Sent). a.message) v.1) in
                 let kv : k ≡ v.0.num = ek ∙ (sym gn ∙ ap (λ (a : GiveRow). a.num) same) in
                 let lv : v.0.num.agent < length p.agents =
                 subst (λ (a : Num). a.agent < length p.agents) kv (agent_low p q w recs sim linked _ asked_ok) in

@@ -5,7 +5,6 @@ use Rattle.pm_base.specs.declared.rows.Parts.{Parts}
 use Rattle.pm_base.specs.declared.stamp.Stamp.{Stamp}
 use Rattle.pm_model.specs.declared.State.{State}
 use Rattle.pm_plan.specs.declared.plan.Plan.{Plan}
-use Rattle.pm_queries.specs.declared.registered.Sent.{Sent}
 use Rattle.pm_clp.specs.Clps.{ClpSends, ClpState, clp_after}
 use Rattle.pm_sim.proofs.Letters.{Bag, delivered_bag, in_map, sent_mail, tally_map}
 use Rattle.pm_sim.proofs.Places.{Sim, clp_at}
@@ -13,11 +12,11 @@ use Rattle.pm_sim.proofs.Takings.{Linked, number_linked}
 use Rattle.pm_sim.proofs.Wires.{posted_else, took}
 use Rattle.pm_sim.specs.Routings.{mail_to}
 use Rattle.pm_sim.specs.Sims.{In, one_if}
-use Rattle.pm_sim.specs.Worlds.{Link, Mail, Posted, Process, Taken, World, clps_of, hub_of, mail, no_clp, number, post_all, posted, process, take_from}
+use Rattle.pm_sim.specs.Worlds.{Link, Mail, Posted, Process, Taken, World, clps_of, hub_of, mail, no_clp, number, post_all, posted, take_from}
 use Rattle.pm_sim.specs.Worlds.Process.{AtAgent, AtClp}
 use Rattle.pm_calm.specs.Phases.{Calm, ClpAt, MailAt, OpenIn, Over, Phase, is_over, token}
 use Rattle.pm_calm.specs.Phases.Phase.{Idle, Single, Range}
-use Rattle.pm_calm.proofs.Acts.{Good, OfRange, clp_good}
+use Rattle.pm_calm.proofs.Acts.{Good, clp_good}
 
 -- where only communication processes and links changed, the open sense is still there
 pub open_same : (ph : Phase) (w : World) (cs : List ClpState) (ls : List Link) → OpenIn ph w

@@ -14,9 +14,8 @@ use Rattle.pm_step.proofs.ExpressionLaws.{value-Bin, value-Num, value-Part}
 use Rattle.pm_step.proofs.StatementLaws.{does-Set}
 use Rattle.pm_step.specs.Expressions.{part, sight}
 use Rattle.pm_step.specs.Steps.{step, written}
-use Rattle.pm_step.specs.declared.Next.{Next}
 use Rattle.pm_alp.specs.Agents.{Actor}
-use Rattle.pm_sim.proofs.Rows.{Acts, by_acts, idle, late_actors, late_acts, nothing, pruned_acts, pruned_window_actors, then_act}
+use Rattle.pm_sim.proofs.Rows.{by_acts, idle, late_actors, late_acts, nothing, pruned_acts, pruned_window_actors, then_act}
 use Rattle.pm_sim.specs.Samples.{late_write, pruned_window, read, rule}
 use Rattle.pm_sim.specs.Worlds.{actor_of}
 use Rattle.pm_calm.specs.Lowest.{lowest}

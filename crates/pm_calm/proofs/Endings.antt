@@ -1,5 +1,5 @@
 -- How the lowest run ends.
-use Rattle.std.proofs.Common.{◌≡◌, ℕ, zero, suc, ◌≤◌, inl, inr, Bool, true, false, List, [], ◌∷◌, ◌++◌, filter, refl, arith, ap, sym, ◌∙◌, subst, Option, Some, None}
+use Rattle.std.proofs.Common.{◌≡◌, ℕ, zero, suc, inl, inr, Bool, true, false, List, [], ◌∷◌, ◌++◌, filter, refl, arith, ap, sym, ◌∙◌, subst, Option, Some, None}
 use Rattle.pm_base.specs.declared.run.Event.{Event}
 use Rattle.pm_base.specs.declared.run.Event.TheVariants as event
 use Rattle.pm_base.specs.declared.stamp.Line.TheVariants as line
@@ -11,12 +11,12 @@ use Rattle.pm_base.specs.declared.rows.Entry.{Entry}
 use Rattle.pm_sim.proofs.Promised.{committed-sequential, plan_fits}
 use Rattle.pm_sim.specs.Journals.{made}
 use Rattle.pm_sim.specs.Sims.{In}
-use Rattle.pm_sim.specs.Worlds.{Mail, World, after_event, after_events, deliver, first_world, is_legal_run, mail, number}
-use Rattle.pm_calm.specs.Calm.{CommitsSequential, EndsAt, LowestCommits, LowestEnds, LowestIsLegal}
-use Rattle.pm_calm.specs.Lowest.{PartOfLowest, commits, least_mail, lowest, lowest_from, opened, opening}
+use Rattle.pm_sim.specs.Worlds.{Mail, World, after_events, deliver, first_world, is_legal_run, mail, number}
+use Rattle.pm_calm.specs.Calm.{EndsAt, LowestCommits, LowestEnds, LowestIsLegal}
+use Rattle.pm_calm.specs.Lowest.{commits, least_mail, lowest_from, opened, opening}
 use Rattle.pm_calm.proofs.Firsts.{head_mail, none_left}
 use Rattle.pm_calm.proofs.Orders.{some_lowest}
-use Rattle.pm_calm.proofs.Rounds.{Kept, deliver_is, deliver_kept, first_kept, legal_left, lowest_legal, opened_kept, opened_links, opened_lowest}
+use Rattle.pm_calm.proofs.Rounds.{Kept, deliver_is, deliver_kept, first_kept, legal_left, lowest_legal, opened_kept, opened_lowest}
 
 run_opening : (b : Bool) (p : Plan) (w : World) (es : List Event)
     → after_events p w (opening b w ++ es) ≡ after_events p (opened b w) es
@@ -48,8 +48,11 @@ ends_from zero p w begun (Some x) e k =
     let b : Bool = commits begun w in
     let i : In x (mail (opened b w).links) =
     head_mail (opened b w).links x (opened_lowest b p w x (some_lowest p w.links x e)).there in
-    inr (made_none b w, subst (λ (u : World). mail u.links ≡ [] → ⊥) (sym (run_none b p w))
-    (still_mail x (opened b w) i))
+    inr (
+      made_none b w,
+      subst (λ (u : World). mail u.links ≡ [] → ⊥) (sym (run_none b p w))
+          (still_mail x (opened b w) i),
+    )
 ends_from (suc budget) p w begun (Some x) e k =
     let b : Bool = commits begun w in
     let u : World = opened b w in

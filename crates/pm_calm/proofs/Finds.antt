@@ -3,29 +3,26 @@
 use Rattle.pm_queries.specs.Queries.{has, has_reg}
 use Rattle.pm_queries.specs.declared.registered.Registered.{Registered}
 use Rattle.pm_tables.specs.Tables.{may_hold, meets_at}
-use Rattle.pm_sim.specs.Bounds.{Net, GrowsFit, CoveredAt, between, item_of, items, net_of, BoundsOk}
-use Rattle.pm_sim.specs.Bounds.Item.{Grows, Moves}
+use Rattle.pm_sim.specs.Bounds.{Net, GrowsFit, CoveredAt, between, net_of, BoundsOk}
 use Rattle.pm_ranges.specs.Fits.{Fits}
-use Rattle.pm_ranges.specs.Joins.{Small}
 use Rattle.pm_ranges.specs.Known.{Known, bound_at}
 use Rattle.pm_base.specs.Windows.{inside}
 use Rattle.pm_clp.specs.Clps.{rec_at}
 use Rattle.pm_sim.proofs.Ranges.{bound_none, bound_up, common_meets}
 use Rattle.std.proofs.lemmas.Int.{ints}
-use Rattle.std.proofs.lemmas.Bool.{and_parts, cases_Bool, cond_both, cases_eq}
+use Rattle.std.proofs.lemmas.Bool.{and_parts, cases_Bool, cases_eq}
 use Rattle.std.specs.Prelude.{int_le, pos, ℤ, ◌&&◌}
 use Rattle.pm_sim.specs.Covers.{AskedOk, Door}
 use Rattle.pm_sim.proofs.Wires.{between_mail}
 use Rattle.pm_base.specs.declared.value.Value.{Value}
 use Rattle.pm_sim.proofs.Queries.{reg_of, clp_parts, toward_away, toward_home, no_turn_back}
-use Rattle.std.proofs.Common.{◌≡◌, ℕ, zero, suc, ◌<◌, ◌≤◌, ◌⊎◌, inl, inr, ◌==◌, true, false, List, [], ◌∷◌, length, refl, arith, ap, sym, ◌∙◌, subst, Option, Some, None}
+use Rattle.std.proofs.Common.{◌≡◌, ℕ, zero, suc, ◌<◌, ◌≤◌, ◌⊎◌, inl, inr, ◌==◌, true, false, length, refl, arith, ap, sym, ◌∙◌, subst, Option, Some, None}
 use Rattle.std.proofs.lemmas.Bool.Decides.{nat_tests}
 use Rattle.pm_base.specs.declared.rows.Parts.{Parts}
 use Rattle.pm_base.specs.declared.stamp.Line.{Line}
 use Rattle.pm_base.specs.declared.stamp.Num.{Num}
 use Rattle.pm_base.specs.declared.stamp.Stamp.{Stamp}
 use Rattle.pm_base.specs.declared.value.Window.{Window}
-use Rattle.pm_base.specs.Stamps.{stamp_lt}
 use Rattle.pm_message.specs.Messages.{stamp_of}
 use Rattle.pm_message.specs.declared.Message.{Message}
 use Rattle.pm_model.specs.declared.State.{State}
@@ -41,10 +38,9 @@ use Rattle.pm_sim.proofs.Catches.{has_in}
 use Rattle.pm_sim.proofs.Letters.{message_of, letters, map_in}
 use Rattle.pm_sim.proofs.Places.{clp_at, queries_at, Sim}
 use Rattle.pm_sim.proofs.Quiets.{tally_some}
-use Rattle.pm_sim.proofs.Stamps.{lt_tells, past_not, not_past_up}
+use Rattle.pm_sim.proofs.Stamps.{past_not, not_past_up}
 use Rattle.pm_base.specs.declared.value.Query.TheVariants as query
 use Rattle.pm_message.specs.declared.Message.TheVariants as message
-use Rattle.pm_sim.proofs.Nets.{grows_append}
 use Rattle.pm_sim.proofs.Reaches.{quiet_fits}
 
 module _ (p : Plan) (q : State) (w : World) (recs : ℕ → Parts) (sim : Sim p q w recs) (asked :

@@ -1,9 +1,9 @@
 -- First messages of links, where no link stands twice with messages.
-use Rattle.std.proofs.Common.{◌≡◌, ℕ, inl, inr, Bool, true, false, cond, List, [], ◌∷◌, ◌++◌, map, refl, ap, sym, ◌∙◌, subst, Option, Some, None}
+use Rattle.std.proofs.Common.{◌≡◌, inl, inr, true, cond, List, [], ◌∷◌, ◌++◌, map, refl, ap, sym, ◌∙◌, subst, Option, Some, None}
 use Rattle.std.proofs.lemmas.Bool.{cases_Bool}
 use Rattle.pm_message.specs.declared.Message.{Message}
 use Rattle.pm_plan.specs.declared.plan.Plan.{Plan}
-use Rattle.pm_sim.proofs.Lanes.{Key, Lanes, keys}
+use Rattle.pm_sim.proofs.Lanes.{Lanes, keys}
 use Rattle.pm_sim.proofs.Letters.{in_map, process_self}
 use Rattle.pm_sim.proofs.Lists.{in_cases, in_left, in_right}
 use Rattle.pm_sim.proofs.Nexts.{taken_between}

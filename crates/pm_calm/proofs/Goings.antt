@@ -7,7 +7,6 @@ use Rattle.pm_base.specs.declared.run.Event.TheVariants as event
 use Rattle.pm_base.specs.declared.stamp.Line.TheVariants as line
 use Rattle.pm_plan.specs.Plans.{IsValid}
 use Rattle.pm_plan.specs.declared.plan.Plan.{Plan}
-use Rattle.pm_sim.proofs.Firsts.{PlanFits}
 use Rattle.pm_sim.proofs.Heads.{legal_append, line_self, made_append, run_append}
 use Rattle.pm_sim.proofs.Promised.{plan_fits}
 use Rattle.pm_sim.specs.Bounds.{between}
@@ -15,10 +14,10 @@ use Rattle.pm_sim.specs.Journals.{made}
 use Rattle.pm_sim.specs.Reached.{Reached}
 use Rattle.pm_sim.specs.Routings.{mail_to}
 use Rattle.pm_sim.specs.Sims.{In}
-use Rattle.pm_sim.specs.Worlds.{Mail, World, after_event, after_events, clps_of, commit, deliver, first_world, is_legal, is_legal_run, least_line, mail, may_commit, number, process}
-use Rattle.pm_calm.specs.Lowest.{IsFirstOfAll, LeastLinkIs, LeastLinkOf, LowestSteps, PartOfLowest, Underway, commits, ends_of, is_begun, least_link, least_mail, lowest, lowest_from, lowest_on, opened, opening, taken_before}
+use Rattle.pm_sim.specs.Worlds.{Mail, World, after_event, after_events, clps_of, commit, deliver, first_world, is_legal, least_line, mail, number, process}
+use Rattle.pm_calm.specs.Lowest.{IsFirstOfAll, LeastLinkOf, LowestSteps, Underway, commits, ends_of, is_begun, least_link, least_mail, lowest, lowest_from, lowest_on, opened, opening, taken_before}
 use Rattle.pm_calm.proofs.Firsts.{between_head, head_between, left_none, none_left}
-use Rattle.pm_calm.proofs.Orders.{IsLowest, LowestIs, heads, lowest_is, same_link, some_lowest}
+use Rattle.pm_calm.proofs.Orders.{LowestIs, heads, lowest_is, same_link, some_lowest}
 use Rattle.pm_calm.proofs.Rounds.{Kept, deliver_is, deliver_legal, least_may, names, reached_kept}
 
 -- a round of the run, by whether a Commit comes first
@@ -135,7 +134,7 @@ module _ (budget : ℕ) (p : Plan) (valid : IsValid p) where
       let next : after_event p w (event.Deliver to from) ≡ deliver p w x.0.to x.0.from =
       ap (after_event p w) (sym e) ∙ deliver_is p w k x.0 i in
       let goes : lowest_on (suc (budget - suc n)) p w (is_begun j)
-          ≡ event.Deliver to from ∷ lowest_on (budget - suc n) p (after_event p w (event.Deliver to from)) true =
+      ≡ event.Deliver to from ∷ lowest_on (budget - suc n) p (after_event p w (event.Deliver to from)) true =
       ap (lowest_from (suc (budget - suc n)) p w (is_begun j)) x.1
       ∙ (begins_taking (budget - suc n) p w (is_begun j) x.0 c
       ∙ (ap (λ z. z ∷ lowest_on (budget - suc n) p (deliver p w x.0.to x.0.from) true) e
@@ -213,7 +212,7 @@ least_is p w k to from f = go (least_mail p w) (lowest_is p w.links)
         (subst (λ z. between x.to z w.links ≡ x.message ∷ b.0) (sym n.1) b.1) in
         let g = f.least (number p x.to) (number p x.from) x.message b.0 at in
         let g2 : taken_before (number p x.to) (number p x.from) x.message
-            (number p (process p to)) (number p (process p from)) f.message ≡ false =
+        (number p (process p to)) (number p (process p from)) f.message ≡ false =
         subst (λ z. taken_before (number p x.to) (number p x.from) x.message z (number p (process p from)) f.message
         ≡ false) (sym et)
         (subst (λ z. taken_before (number p x.to) (number p x.from) x.message to z f.message ≡ false) (sym ef) g) in

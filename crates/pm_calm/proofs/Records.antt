@@ -1,7 +1,6 @@
 -- One record whose puts and reads all have one moment: a put of it changes no read of it, and a read finds the base.
-use Rattle.std.proofs.Common.{◌≡◌, ℕ, suc, ◌≤◌, ◌⊎◌, inl, inr, Bool, true, false, cond, not, ◌&&◌, ◌||◌, List, [], ◌∷◌, map, filter, length, refl, arith, ap, sym, ◌∙◌, subst, Option, Some, None}
-use Rattle.std.proofs.lemmas.Bool.{cond_both, cases_Bool}
-use Rattle.std.proofs.lemmas.Bool.Decides.{nat_tests}
+use Rattle.std.proofs.Common.{◌≡◌, ℕ, suc, ◌≤◌, inl, inr, Bool, true, false, cond, not, ◌&&◌, ◌||◌, List, [], ◌∷◌, map, filter, length, refl, arith, ap, sym, ◌∙◌, subst, Some}
+use Rattle.std.proofs.lemmas.Bool.{cond_both}
 use Rattle.pm_base.specs.Stamps.{is_after, num_eq, stamp_lt}
 use Rattle.pm_base.specs.declared.rows.CutRow.{CutRow}
 use Rattle.pm_base.specs.declared.rows.GiveRow.{GiveRow}
@@ -12,10 +11,9 @@ use Rattle.pm_base.specs.declared.stamp.Line.TheVariants as line
 use Rattle.pm_base.specs.declared.stamp.Num.{Num}
 use Rattle.pm_base.specs.declared.stamp.Stamp.{Stamp}
 use Rattle.pm_base.specs.declared.value.Period.{Period}
-use Rattle.pm_base.specs.declared.value.Value.{Value}
 use Rattle.pm_base.specs.declared.value.Window.{Window}
 use Rattle.pm_periods.specs.Periods.{periods_of}
-use Rattle.pm_periods.specs.Records.{IsSettled, changed_of, changed_unless, first_read, hit_by, hit_eq, hit_in, in_value_order, is_live, is_seen, is_stale, next_give, record_hit, record_value, refreshed, refreshed_unless, value_after, value_below, with_put, with_read}
+use Rattle.pm_periods.specs.Records.{IsSettled, changed_of, changed_unless, first_read, hit_eq, hit_in, in_value_order, is_live, is_seen, is_stale, next_give, record_hit, record_value, refreshed, refreshed_unless, value_after, with_put, with_read}
 use Rattle.pm_periods.specs.Rows.{add_row, has_num, key_lt, put_key, read_key}
 use Rattle.pm_plan.specs.declared.plan.Plan.{Plan}
 use Rattle.pm_clp.specs.Clps.{take_put, take_watch}
@@ -27,7 +25,7 @@ use Rattle.pm_sim.proofs.Stamps.{lt_false}
 use Rattle.pm_sim.proofs.Takes.{add_row_in}
 use Rattle.pm_sim.proofs.Tellings.{add_read_has, add_read_in, given_has, given_in, given_stamp}
 use Rattle.pm_sim.proofs.Trims.{in_filter}
-use Rattle.pm_sim.specs.Sims.{In, class_at, given, has_read}
+use Rattle.pm_sim.specs.Sims.{In, has_read}
 use Rattle.pm_calm.specs.Phases.{RecAt, Silent}
 
 -- ---- values

@@ -1,5 +1,5 @@
 -- An agent goes on where nothing but Wakes is on its way: the calm world after it.
-use Rattle.std.proofs.Common.{◌≡◌, ℕ, ◌+◌, ◌<◌, ◌≤◌, inl, inr, Bool, true, List, [], ◌∷◌, ◌++◌, map, length, get_or, set, nat_le, refl, arith, ap, sym, ◌∙◌, subst, Option, Some, None, ℤ, get_or-set_other, get_or-set_same, length-set}
+use Rattle.std.proofs.Common.{◌≡◌, ℕ, ◌<◌, ◌≤◌, inl, inr, Bool, true, List, [], ◌∷◌, ◌++◌, map, length, get_or, set, nat_le, refl, arith, ap, sym, ◌∙◌, subst, Option, Some, None, ℤ, get_or-set_other, get_or-set_same, length-set}
 use Rattle.std.proofs.lemmas.Bool.{cases_eq}
 use Rattle.std.proofs.lemmas.List.{map-append}
 use Rattle.pm_alp.specs.Agents.{Sends, act_sends, acted_step, asking, next_wake, no_agent, puts_of, wake_of, went_on}

@@ -1,26 +1,23 @@
 -- The lowest run is legal, and goes on one event after another.
-use Rattle.std.proofs.Common.{◌≡◌, ℕ, zero, suc, ◌+◌, ◌-◌, ◌<◌, ◌≤◌, inl, inr, Bool, true, false, not, ◌&&◌, List, [], ◌∷◌, ◌++◌, length, refl, arith, ap, sym, ◌∙◌, subst, Option, Some, None, append-nil, append_assoc}
-use Rattle.std.proofs.lemmas.Bool.{cases_Bool, and_parts}
+use Rattle.std.proofs.Common.{◌≡◌, ℕ, zero, suc, Bool, true, false, ◌&&◌, List, [], ◌∷◌, ◌++◌, length, refl, ap, sym, ◌∙◌, subst, Option, Some, None, append-nil}
+use Rattle.std.proofs.lemmas.Bool.{and_parts}
 use Rattle.pm_base.specs.declared.rows.Entry.{Entry}
 use Rattle.pm_base.specs.declared.run.Event.{Event}
 use Rattle.pm_base.specs.declared.run.Event.TheVariants as event
 use Rattle.pm_base.specs.declared.stamp.Line.{Line}
 use Rattle.pm_base.specs.declared.stamp.Line.TheVariants as line
-use Rattle.pm_message.specs.declared.Message.{Message}
 use Rattle.pm_plan.specs.declared.plan.Plan.{Plan}
 use Rattle.pm_sim.proofs.Awakes.{Awake, commit_awake, deliver_awake, first_awake, run_awake}
 use Rattle.pm_sim.proofs.Firsts.{PlanFits}
-use Rattle.pm_sim.proofs.Heads.{legal_append, line_self, made_append, may_least, run_append}
-use Rattle.pm_sim.proofs.Lanes.{InPlan, keys, mail_between}
+use Rattle.pm_sim.proofs.Heads.{may_least}
+use Rattle.pm_sim.proofs.Lanes.{InPlan}
 use Rattle.pm_sim.proofs.Nexts.{key_ok, number_process}
 use Rattle.pm_sim.proofs.Wholes.{Whole, commit_whole, deliver_whole, first_whole, whole_run}
-use Rattle.pm_sim.specs.Bounds.{between}
-use Rattle.pm_sim.specs.Journals.{made}
 use Rattle.pm_sim.specs.Reached.{Reached}
 use Rattle.pm_sim.specs.Sims.{In}
-use Rattle.pm_sim.specs.Worlds.{Mail, Process, World, after_event, after_events, clps_of, commit, committed, deliver, first_world, handed, has_mail, is_legal, is_legal_run, least_line, line_le, mail, may_commit, number, process, take_from}
-use Rattle.pm_calm.specs.Lowest.{commits, least_mail, lowest, lowest_from, lowest_on, opened, opening}
-use Rattle.pm_calm.proofs.Firsts.{between_key, head_between, head_mail, none_left, taken_head}
+use Rattle.pm_sim.specs.Worlds.{Mail, Process, World, after_event, after_events, clps_of, commit, committed, deliver, first_world, handed, has_mail, is_legal, is_legal_run, least_line, mail, may_commit, number, process, take_from}
+use Rattle.pm_calm.specs.Lowest.{commits, least_mail, lowest, lowest_from, opened, opening}
+use Rattle.pm_calm.proofs.Firsts.{between_key, head_between, none_left, taken_head}
 use Rattle.pm_calm.proofs.Orders.{IsLowest, heads, some_lowest}
 
 -- what every legal run keeps, as far as the lowest run asks for it

@@ -1,7 +1,7 @@
 -- The lowest run never rolls back: no Cut comes, no Give is late, and each delivery takes a message of the least stamp.
-use Rattle.std.proofs.Common.{◌≡◌, ℕ, zero, suc, inl, inr, Bool, true, false, cond, not, List, [], ◌∷◌, ◌++◌, map, length, refl, arith, ap, sym, ◌∙◌, subst, Option, Some, None, append-nil}
+use Rattle.std.proofs.Common.{◌≡◌, ℕ, zero, suc, inl, inr, Bool, true, false, cond, not, List, [], ◌∷◌, ◌++◌, refl, arith, ap, sym, ◌∙◌, subst, Option, Some, None, append-nil}
 use Rattle.std.proofs.lemmas.Bool.Decides.{nat_tests}
-use Rattle.pm_base.specs.Stamps.{least_line_of, or_lower, stamp_lt}
+use Rattle.pm_base.specs.Stamps.{or_lower, stamp_lt}
 use Rattle.pm_base.specs.declared.run.Event.{Event}
 use Rattle.pm_base.specs.declared.run.Event.TheVariants as event
 use Rattle.pm_base.specs.declared.stamp.Line.{Line}
@@ -26,7 +26,7 @@ use Rattle.pm_sim.specs.Sims.{AtMost, In, NotPast}
 use Rattle.pm_sim.specs.Worlds.{Mail, Process, Taken, World, after_event, commit, deliver, first_world, least_line, line_le, mail, number, process, take_from}
 use Rattle.pm_sim.specs.Worlds.Process.{AtAgent}
 use Rattle.pm_calm.specs.Calm.{CalmDelivery, CalmWorld, EachDelivery, EachWorld, IsCalm, LowestIsCalm}
-use Rattle.pm_calm.specs.Lowest.{PartOfLowest, commits, least_mail, lowest, lowest_from, opened, opening}
+use Rattle.pm_calm.specs.Lowest.{commits, least_mail, lowest, lowest_from, opened, opening}
 use Rattle.pm_calm.specs.Phases.{Calm, MailAt, OrderIn, Over, Phase, is_over}
 use Rattle.pm_calm.specs.Phases.Phase.{Idle}
 use Rattle.pm_calm.proofs.Commits.{Old, calm_commit, calm_old, first_old}
