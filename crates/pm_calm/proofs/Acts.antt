@@ -376,9 +376,11 @@ module _ (p : Plan) (c : ℕ) (s : Stamp) (over : Num → ℕ → Window → Typ
       (watches k z j u es ok i (rg j i lo (omega arith)) x h)
       (all_watch rg k z j u es ok (suc i) m (omega arith) (omega arith))
 
-  forwards_good : (from : ℕ) (r : Registered) → r.stamp ≡ s → AskAt ph over (AtClp c) r.num (query.Class r.class r.window)
+  forwards_good : (from : ℕ) (r : Registered) → r.stamp ≡ s
+      → AskAt ph over (AtClp c) r.num (query.Class r.class r.window)
       → FinishAt ph (process p from) r.num → (ds : List ℕ)
-      → AllAt (forwards (hub_of p c) from r ds) × ((y : Sent) → In y (forwards (hub_of p c) from r ds) → Plain y.message)
+      → AllAt (forwards (hub_of p c) from r ds) × ((y : Sent) → In y (forwards (hub_of p c) from r ds)
+      → Plain y.message)
   forwards_good from r es ask fin [] = (
     only (record { to = from; message = message.Finish r.num r.stamp }) (es, fin),
     only_plain (record { to = from; message = message.Finish r.num r.stamp }) tt,
@@ -575,7 +577,8 @@ module _ (p : Plan) (c : ℕ) (s : Stamp) (over : Num → ℕ → Window → Typ
   give_good g f o x h = (h, (only (to_agent (hub_of p c) g) (o.0, o.1, tt), (omega arith)))
 
 -- the Ask of the open single read
-one_good : (p : Plan) (c : ℕ) (s : Stamp) (over : Num → ℕ → Window → Type 0) (n : Num) (i from : ℕ) (k : Num) (z : Stamp)
+one_good : (p : Plan) (c : ℕ) (s : Stamp) (over : Num → ℕ → Window → Type 0) (n : Num) (i from : ℕ) (k : Num)
+    (z : Stamp)
     (v : ℕ) → z ≡ s → k ≡ n → (x : ClpState) → State p c s over (Single n i) x
     → Good p c s over (Single n i) 1 (clp_after (hub_of p c) from (message.Ask k z (query.One v)) x)
 one_good p c s over n i from k z v es ek x h = go (way_of v x)
@@ -592,14 +595,17 @@ one_good p c s over n i from k z v es ek x h = go (way_of v x)
     )
     go way.Here = chain p c s over (Single n i) 1 0 (at_record (hub_of p c) v (take_watch v k z whole) x)
         (counting (hub_of p c) v from)
-        (takes p c s over (Single n i) 1 v (take_watch v k z whole) (λ r a. (let o = watch_at p s over v k z whole r es a in
+        (takes p c s over (Single n i) 1 v (take_watch v k z whole)
+        (λ r a. (let o = watch_at p s over v k z whole r es a in
         (o.0, ((λ g j. (let e = o.1.0 g j in (e.1, e.0 ∙ ek))), watch_once p s over v k z whole r a)))) x h)
         (counted_good p c s over (Single n i) tt v from)
 
 -- a delivery at a communication process
-pub clp_good : (p : Plan) (c : ℕ) (s : Stamp) (over : Num → ℕ → Window → Type 0) (ph : Phase) (f : Process) (m : Message)
+pub clp_good : (p : Plan) (c : ℕ) (s : Stamp) (over : Num → ℕ → Window → Type 0) (ph : Phase) (f : Process)
+    (m : Message)
     → OfRange p → process p (number p f) ≡ f → MailAt p s over ph (AtClp c) f m
-    → (x : ClpState) → ClpAt p s over ph x → Good p c s over ph (one_if (token ph m) 0) (clp_after (hub_of p c) (number p f) m x)
+    → (x : ClpState) → ClpAt p s over ph x → Good p c s over ph (one_if (token ph m) 0)
+    (clp_after (hub_of p c) (number p f) m x)
 clp_good p c s over ph f (message.Wake k z) rg nm m x h =
     more p c s over ph 0 (one_if (token ph (message.Wake k z)) 0)
     (clp_after (hub_of p c) (number p f) (message.Wake k z) x) (omega arith) (still p c s over ph x h)
@@ -607,16 +613,20 @@ clp_good p c s over ph f (message.Give g) rg nm m x h = give_good p c s over ph 
 clp_good p c s over ph f (message.Cut r_n r_t v) rg nm m x h = absurd m
 clp_good p c s over ph f (message.Put r_n r_t v r_c) rg nm m x h =
     more p c s over ph 0 (one_if (token ph (message.Put r_n r_t v r_c)) 0)
-    (clp_after (hub_of p c) (number p f) (message.Put r_n r_t v r_c) x) (omega arith) (put_good p c s over ph m.1 (number p f) r_n r_t v r_c m.0 x h)
+    (clp_after (hub_of p c) (number p f) (message.Put r_n r_t v r_c) x) (omega arith)
+    (put_good p c s over ph m.1 (number p f) r_n r_t v r_c m.0 x h)
 clp_good p c s over ph f (message.Move v z r) rg nm m x h =
     more p c s over ph 0 (one_if (token ph (message.Move v z r)) 0)
-    (clp_after (hub_of p c) (number p f) (message.Move v z r) x) (omega arith) (move_good p c s over ph m.1 (number p f) v z r m.2 x h)
+    (clp_after (hub_of p c) (number p f) (message.Move v z r) x) (omega arith)
+    (move_good p c s over ph m.1 (number p f) v z r m.2 x h)
 clp_good p c s over ph f (message.Grow k z until u) rg nm m x h =
     more p c s over ph 0 (one_if (token ph (message.Grow k z until u)) 0)
-    (clp_after (hub_of p c) (number p f) (message.Grow k z until u) x) (omega arith) (grow_good p c s over ph m.1 (number p f) k z until u m.0 x h)
+    (clp_after (hub_of p c) (number p f) (message.Grow k z until u) x) (omega arith)
+    (grow_good p c s over ph m.1 (number p f) k z until u m.0 x h)
 clp_good p c s over ph f (message.Finish k z) rg nm m x h =
     more p c s over ph 0 (one_if (token ph (message.Finish k z)) 0)
-    (clp_after (hub_of p c) (number p f) (message.Finish k z) x) (omega arith) (finish_good p c s over ph (number p f) k z m.1 x h)
+    (clp_after (hub_of p c) (number p f) (message.Finish k z) x) (omega arith)
+    (finish_good p c s over ph (number p f) k z m.1 x h)
 clp_good p c s over Idle f (message.Ask k z (query.One v)) rg nm m x h = absurd m.1
 clp_good p c s over (Range n i w) f (message.Ask k z (query.One v)) rg nm m x h = absurd m.1
 clp_good p c s over (Single n i) f (message.Ask k z (query.One v)) rg nm m x h =

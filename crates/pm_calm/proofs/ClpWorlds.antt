@@ -55,7 +55,8 @@ module _ (p : Plan) (q : State) (w : World) (recs : ℕ → Parts) (sim : Sim p 
       | inl f ↦ subst (λ z. ClpAt p s (is_over os) ph (get_or (set w.clps c done.clp) z no_clp)) (sym f)
           (subst (ClpAt p s (is_over os) ph)
           (sym (get_or-set_same w.clps c done.clp no_clp (let o = sim.size in omega arith))) good.0)
-      | inr ne ↦ subst (ClpAt p s (is_over os) ph) (sym (get_or-set_other w.clps c d done.clp no_clp ne)) (calm.clps d ld)
+      | inr ne ↦ subst (ClpAt p s (is_over os) ph) (sym (get_or-set_other w.clps c d done.clp no_clp ne))
+          (calm.clps d ld)
     ];
     letters = λ x i. elim (bag.from x i) [
       | inl j ↦ calm.letters x j

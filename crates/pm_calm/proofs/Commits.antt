@@ -46,23 +46,29 @@ use Rattle.pm_base.specs.declared.stamp.Line.TheVariants as line
 -- all that has a stamp is below k, but Wakes
 pub record Old (p : Plan) (k : Stamp) (w : World) : Type 0 where
   pub size : length w.clps ≡ clps_of p
-  pub puts : (c v : ℕ) (r : Parts) → c < clps_of p → rec_at (clp_at w c).records v ≡ Some r → (x : PutRow) → In x r.puts → IsBefore x.stamp k
-  pub reads : (c v : ℕ) (r : Parts) → c < clps_of p → rec_at (clp_at w c).records v ≡ Some r → (x : ReadRow) → In x r.reads → IsBefore x.stamp k
+  pub puts : (c v : ℕ) (r : Parts) → c < clps_of p → rec_at (clp_at w c).records v ≡ Some r → (x : PutRow) → In x r.puts
+      → IsBefore x.stamp k
+  pub reads : (c v : ℕ) (r : Parts) → c < clps_of p → rec_at (clp_at w c).records v ≡ Some r → (x : ReadRow)
+      → In x r.reads → IsBefore x.stamp k
   pub regs : (c : ℕ) (r : Registered) → c < clps_of p → In r (clp_at w c).queries → IsBefore r.stamp k
-  pub steps : (i : ℕ) (z : KeptStep) → i < length w.agents → In z (get_or w.agents i no_agent).steps → IsBefore z.stamp k
+  pub steps : (i : ℕ) (z : KeptStep) → i < length w.agents → In z (get_or w.agents i no_agent).steps
+      → IsBefore z.stamp k
   pub wakes : (x : Mail) → In x (mail w.links) → IsWake x.message × (x.from ≡ x.to)
-  pub own : (i : ℕ) → i < length w.agents → between (AtAgent i) (AtAgent i) w.links ≡ wake_of (get_or w.agents i no_agent).awaited
+  pub own : (i : ℕ) → i < length w.agents → between (AtAgent i) (AtAgent i) w.links ≡ wake_of
+      (get_or w.agents i no_agent).awaited
 
 left_in : (l : Line) (ss : List KeptStep) (z : KeptStep) → In z (left_of l ss) → In z ss
 left_in l [] z j = j
 left_in l (s ∷ ss) z j = (let again = left_in l ss z in go (is_past l s.stamp) s.act again j)
   where
-    go : (b : Bool) (o : Option KeptAct) → (In z (left_of l ss) → In z ss) → In z (keep_one b s o ss (left_of l ss)) → In z (s ∷ ss)
+    go : (b : Bool) (o : Option KeptAct) → (In z (left_of l ss) → In z ss) → In z (keep_one b s o ss (left_of l ss))
+        → In z (s ∷ ss)
     go b None again j = j
     go false (Some a) again j = j
     go true (Some a) again j = inr (again j)
 
-kept_not : {X : Type 0} (st : X → Stamp) (k : Stamp) (xs : List X) (x : X) → In x (filter (λ y. not (is_past (line.At k) (st y))) xs) → ((y : X) → In y xs → IsBefore (st y) k) → ⊥
+kept_not : {X : Type 0} (st : X → Stamp) (k : Stamp) (xs : List X) (x : X)
+    → In x (filter (λ y. not (is_past (line.At k) (st y))) xs) → ((y : X) → In y xs → IsBefore (st y) k) → ⊥
 kept_not st k xs x i h =
     let o = in_filter (λ y. not (is_past (line.At k) (st y))) xs x i in
     let e = past_true (line.At k) (st x) (h x o.0) in
@@ -70,44 +76,66 @@ kept_not st k xs x i h =
     let g = o.1 in cc
 
 -- what a Commit makes of it
-pub calm_commit : (p : Plan) (q : State) (w : World) (k : Stamp) → Full p q (commit w (line.At k)) → Old p k w → Calm p (commit w (line.At k)) k [] Idle
+pub calm_commit : (p : Plan) (q : State) (w : World) (k : Stamp) → Full p q (commit w (line.At k)) → Old p k w
+    → Calm p (commit w (line.At k)) k [] Idle
 calm_commit p q w k full old = record {
   line = refl;
-  clps = λ c lc. (let is : get_or (map (clp_committed (line.At k)) w.clps) c no_clp ≡ clp_committed (line.At k) (clp_at w c) = get_or-map (clp_committed (line.At k)) w.clps c no_clp no_clp (let o = old.size in omega arith) in record {
-    records = λ v r er. (let o = trim_some (line.At k) (rec_at (clp_at w c).records v) r (sym (trim_at (line.At k) (clp_at w c).records v) ∙ (ap (λ (z : ClpState). rec_at z.records v) (sym is) ∙ er)) in record {
-      puts = λ x i. absurd (kept_not (λ (y : PutRow). y.stamp) k o.0.puts x (subst (λ (z : Parts). In x z.puts) o.2 i) (old.puts c v o.0 lc o.1));
-      reads = λ x i. absurd (kept_not (λ (y : ReadRow). y.stamp) k o.0.reads x (subst (λ (z : Parts). In x z.reads) o.2 i) (old.reads c v o.0 lc o.1));
-      solid = (let e = (full.sim.places.at c v r lc er).1 in subst IsSettled (sym e) (full.sim.core.rec v).solid);
-      silent = λ n j u b. absurd b;
-    });
-    stamps = λ r i. absurd (kept_not (λ (y : Registered). y.stamp) k (clp_at w c).queries r (subst (λ (z : ClpState). In r z.queries) is i) (λ y j. old.regs c y lc j));
-    regs = λ r i. absurd (kept_not (λ (y : Registered). y.stamp) k (clp_at w c).queries r (subst (λ (z : ClpState). In r z.queries) is i) (λ y j. old.regs c y lc j));
-    line = ap (λ (z : ClpState). floor_of z.line) is;
-  });
+  clps = λ c lc. (let is : get_or (map (clp_committed (line.At k)) w.clps) c no_clp ≡ clp_committed (line.At k)
+      (clp_at w c) = get_or-map (clp_committed (line.At k)) w.clps c no_clp no_clp (let o = old.size in omega arith) in
+      record {
+        records = λ v r er. (let o = trim_some (line.At k) (rec_at (clp_at w c).records v) r
+            (sym (trim_at (line.At k) (clp_at w c).records v) ∙ (ap (λ (z : ClpState). rec_at z.records v) (sym is) ∙ er))
+            in record {
+              puts = λ x i. absurd (kept_not (λ (y : PutRow). y.stamp) k o.0.puts x (subst (λ (z : Parts). In x z.puts) o.2 i)
+                  (old.puts c v o.0 lc o.1));
+              reads = λ x i. absurd (kept_not (λ (y : ReadRow). y.stamp) k o.0.reads x
+                  (subst (λ (z : Parts). In x z.reads) o.2 i) (old.reads c v o.0 lc o.1));
+              solid = (let e = (full.sim.places.at c v r lc er).1 in subst IsSettled (sym e) (full.sim.core.rec v).solid);
+              silent = λ n j u b. absurd b;
+            });
+        stamps = λ r i. absurd (kept_not (λ (y : Registered). y.stamp) k (clp_at w c).queries r
+            (subst (λ (z : ClpState). In r z.queries) is i) (λ y j. old.regs c y lc j));
+        regs = λ r i. absurd (kept_not (λ (y : Registered). y.stamp) k (clp_at w c).queries r
+            (subst (λ (z : ClpState). In r z.queries) is i) (λ y j. old.regs c y lc j));
+        line = ap (λ (z : ClpState). floor_of z.line) is;
+      });
   letters = λ x i. (let o = old.wakes x i in subst (MailAt p k (is_over []) Idle x.to x.from) (sym o.0.2) o.1);
   tokens = (let z = wakes_none Idle (mail w.links) (λ x i. (old.wakes x i).0) in omega arith);
-  agents = λ i li. (let l : i < length w.agents = omega (arith, li, length-map w.agents (agent_committed (line.At k))) in
+  agents = λ i li. (let l : i < length w.agents = omega (arith, li, length-map w.agents (agent_committed (line.At k)))
+      in
       let is = get_or-map (agent_committed (line.At k)) w.agents i no_agent no_agent l in
-      let none : (z : KeptStep) → In z (get_or (map (agent_committed (line.At k)) w.agents) i no_agent).steps → ⊥ = λ z j.
-      past_not (line.At k) z.stamp (old.steps i z l (left_in (line.At k) (get_or w.agents i no_agent).steps z (subst (λ (y : Agent). In z y.steps) is j))) ((full.sim.core.agent i li).low z j) in
+      let none : (z : KeptStep) → In z (get_or (map (agent_committed (line.At k)) w.agents) i no_agent).steps
+      → ⊥ = λ z j.
+      past_not (line.At k) z.stamp (old.steps i z l
+      (left_in (line.At k) (get_or w.agents i no_agent).steps z (subst (λ (y : Agent). In z y.steps) is j)))
+      ((full.sim.core.agent i li).low z j) in
       record { steps = λ z j. absurd (none z j); senses = λ z x j h. absurd (none z j) });
   opens = tt;
   own = λ i li. (let l : i < length w.agents = omega (arith, li, length-map w.agents (agent_committed (line.At k))) in
-      old.own i l ∙ ap (λ (y : Agent). wake_of y.awaited) (sym (get_or-map (agent_committed (line.At k)) w.agents i no_agent no_agent l)));
+      old.own i l ∙ ap (λ (y : Agent). wake_of y.awaited)
+      (sym (get_or-map (agent_committed (line.At k)) w.agents i no_agent no_agent l)));
 }
 
 -- a letter that is not below k in a calm world below k
-wake_only : (p : Plan) (s k : Stamp) (over : Num → ℕ → Window → Type 0) (ph : Phase) (to from : Process) (m : Message) → MailAt p s over ph to from m → IsBefore s k → NotPast (line.At k) (stamp_of m) → IsWake m × (from ≡ to)
+wake_only : (p : Plan) (s k : Stamp) (over : Num → ℕ → Window → Type 0) (ph : Phase) (to from : Process) (m : Message)
+    → MailAt p s over ph to from m → IsBefore s k → NotPast (line.At k) (stamp_of m) → IsWake m × (from ≡ to)
 wake_only p s k over ph to from (message.Wake n z) h b np = ((n, z, refl), h)
-wake_only p s k over ph to from (message.Ask n z y) h b np = absurd (before_not s k b (subst (NotPast (line.At k)) h.0 np))
-wake_only p s k over ph to from (message.Put r_n r_t v r_c) h b np = absurd (before_not s k b (subst (NotPast (line.At k)) h.0 np))
+wake_only p s k over ph to from (message.Ask n z y) h b np =
+    absurd (before_not s k b (subst (NotPast (line.At k)) h.0 np))
+wake_only p s k over ph to from (message.Put r_n r_t v r_c) h b np =
+    absurd (before_not s k b (subst (NotPast (line.At k)) h.0 np))
 wake_only p s k over ph to from (message.Cut r_n r_t v) h b np = absurd h
 wake_only p s k over ph to from (message.Give g) h b np = absurd (before_not s k b (subst (NotPast (line.At k)) h.0 np))
-wake_only p s k over ph to from (message.Finish n z) h b np = absurd (before_not s k b (subst (NotPast (line.At k)) h.0 np))
-wake_only p s k over ph to from (message.Move v z r) h b np = absurd (before_not s k b (subst (NotPast (line.At k)) h.0 np))
-wake_only p s k over ph to from (message.Grow n z u y) h b np = absurd (before_not s k b (subst (NotPast (line.At k)) h.0 np))
+wake_only p s k over ph to from (message.Finish n z) h b np =
+    absurd (before_not s k b (subst (NotPast (line.At k)) h.0 np))
+wake_only p s k over ph to from (message.Move v z r) h b np =
+    absurd (before_not s k b (subst (NotPast (line.At k)) h.0 np))
+wake_only p s k over ph to from (message.Grow n z u y) h b np =
+    absurd (before_not s k b (subst (NotPast (line.At k)) h.0 np))
 
-pub calm_old : (p : Plan) (w : World) (s k : Stamp) (os : List Over) (ph : Phase) → Calm p w s os ph → length w.clps ≡ clps_of p → IsBefore s k → ((x : Mail) → In x (mail w.links) → NotPast (line.At k) (stamp_of x.message)) → Old p k w
+pub calm_old : (p : Plan) (w : World) (s k : Stamp) (os : List Over) (ph : Phase) → Calm p w s os ph
+    → length w.clps ≡ clps_of p → IsBefore s k → ((x : Mail) → In x (mail w.links)
+    → NotPast (line.At k) (stamp_of x.message)) → Old p k w
 calm_old p w s k os ph calm size b np = record {
   size = size;
   puts = λ c v r lc er x i. subst (λ z. IsBefore z k) (sym (((calm.clps c lc).records v r er).puts x i)) b;
@@ -161,7 +189,8 @@ own_tree p c (suc n) a ls = over (ports p c) (own_tree p (suc c) n a ls)
     over [] h = h
     over (d ∷ ds) h = over ds h
 
-pub first_old : (p : Plan) → PlanFits p → length (first_world p).clps ≡ clps_of p → (k : Stamp) → Old p k (first_world p)
+pub first_old : (p : Plan) → PlanFits p → length (first_world p).clps ≡ clps_of p → (k : Stamp)
+    → Old p k (first_world p)
 first_old p fit size k = record {
   size = size;
   puts = λ c v r lc er x i. absurd (subst (In x) (rows c v r lc er).0 i);

@@ -45,7 +45,11 @@ pruned_window_row = lowest_same pruned_window (by_acts pruned_acts) pruned_windo
 abbrev counts : List Hit → List Write
 counts a = record {
   var = 0;
-  change = change.Set (record { x = saturate_signed w64 (saturate_signed w64 (part [] field.X a +ℤ pos 1)); y = saturate_signed w64 (pos 0) });
+  change = change.Set (record {
+    x = saturate_signed w64 (saturate_signed w64 (part [] field.X a +ℤ pos 1));
+    y =
+        saturate_signed w64 (pos 0);
+  });
 } ∷ []
 
 counts_up : (cs : List ClassRow) (s : Stamp) (regs : List ℤ) (answers : List (List Hit))

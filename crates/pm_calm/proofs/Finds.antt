@@ -45,7 +45,8 @@ use Rattle.pm_sim.proofs.Reaches.{quiet_fits}
 
 module _ (p : Plan) (q : State) (w : World) (recs : ℕ → Parts) (sim : Sim p q w recs) (asked :
     AskedOk p (length q.values) recs (clp_at w) (mail w.links)) (bounds : BoundsOk p w.line recs (clp_at w) w.links)
-    (k : Line) (quiet : (e : ℕ) (f : Process) (m : Message) → In (mail_to (AtClp e) f m) (mail w.links) → NotPast k (stamp_of m))
+    (k : Line) (quiet : (e : ℕ) (f : Process) (m : Message) → In (mail_to (AtClp e) f m) (mail w.links)
+    → NotPast k (stamp_of m))
     (n : Num) (s : Stamp) (j : ℕ) (u : Window)
     (issue : In (message.Ask n s (query.Class j u)) sim.issued) (low : NotPast w.line s) (past : Past k s) where
   abbrev N : ℕ

@@ -143,7 +143,8 @@ module _ (budget : ℕ) (p : Plan) (valid : IsValid p) where
       (let z : n + 1 ≡ suc n = omega arith in z) (omega arith)
       (let s : budget - n ≡ suc (budget - suc n) = omega arith in
       subst (λ z. lowest_on z p w (is_begun j)
-      ≡ event.Deliver to from ∷ lowest_on (budget - suc n) p (after_event p w (event.Deliver to from)) true) (sym s) goes)
+      ≡ event.Deliver to from ∷ lowest_on (budget - suc n) p (after_event p w (event.Deliver to from)) true) (sym s)
+      goes)
 
   pub done_on : (n : ℕ) (w : World) (j : List Event) → Underway budget p n w j → mail w.links ≡ []
       → j ++ event.Commit line.End ∷ [] ≡ lowest budget p

@@ -58,7 +58,8 @@ abbrev pub asks : Num → Query → Phase
 asks n (query.One v) = Single n v
 asks n (query.Class k w) = Range n k w
 
-reg_up : (p : Plan) (over : Num → ℕ → Window → Type 0) (ph : Phase) (r : Registered) → OverAt p over r → RegAt p over ph r
+reg_up : (p : Plan) (over : Num → ℕ → Window → Type 0) (ph : Phase) (r : Registered) → OverAt p over r
+    → RegAt p over ph r
 reg_up p over Idle r h = h
 reg_up p over (Single n x) r h = h
 reg_up p over (Range n i w) r h = inl h
@@ -90,7 +91,8 @@ pub done_at : (n : Num) (q : Query) (x : KeptSense) → x.complete ≡ true → 
 done_at n (query.One v) x e ne = inl (e, ne)
 done_at n (query.Class k w) x e ne = inl (e, ne)
 
-pub asked_at : (n : Num) (q : Query) (x : KeptSense) → x.num ≡ n → x.complete ≡ false → x.query ≡ q → SenseAt (asks n q) x
+pub asked_at : (n : Num) (q : Query) (x : KeptSense) → x.num ≡ n → x.complete ≡ false → x.query ≡ q
+    → SenseAt (asks n q) x
 asked_at n (query.One v) x a b c = inr (a, b, c)
 asked_at n (query.Class k w) x a b c = inr (a, b, c)
 

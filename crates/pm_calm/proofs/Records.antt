@@ -149,10 +149,11 @@ module _ (p : Plan) (s : Stamp) (over : Num → ℕ → Window → Type 0) where
       go false e st = (
         record {
           puts = h.puts;
-          reads = fresh_stamp (with_read (first_read n z w) r) s (λ x i. elim (add_read_in (first_read n z w) r.reads x i) [
-            | inl f ↦ ap (λ (y : ReadRow). y.stamp) f ∙ es
-            | inr j ↦ h.reads x j
-          ]);
+          reads = fresh_stamp (with_read (first_read n z w) r) s
+              (λ x i. elim (add_read_in (first_read n z w) r.reads x i) [
+                | inl f ↦ ap (λ (y : ReadRow). y.stamp) f ∙ es
+                | inr j ↦ h.reads x j
+              ]);
           solid = st;
           silent = λ k j u o f. elim (h.silent k j u o f) [
             | inr m ↦ inr m
@@ -169,14 +170,16 @@ module _ (p : Plan) (s : Stamp) (over : Num → ℕ → Window → Type 0) where
                   | inr j ↦ others x j
                   | inl f ↦ ap (λ (y : ReadRow). y.hit) f
                       ∙ sym (ap (record_hit (with_read (first_read n z w) r)) f
-                      ∙ (ap (λ y. hit_in (record_value r y) w) es ∙ (ap (λ y. hit_in y w) (value_base s r h.puts) ∙ none)))
+                      ∙ (ap (λ y. hit_in (record_value r y) w) es
+                      ∙ (ap (λ y. hit_in y w) (value_base s r h.puts) ∙ none)))
                 ])
           ],
         ),
       )
         where
           given_of : (g : GiveRow)
-              → In g (changed_of v (record_value (with_read (first_read n z w) r)) (add_row read_key (first_read n z w) r.reads))
+              → In g (changed_of v (record_value (with_read (first_read n z w) r))
+              (add_row read_key (first_read n z w) r.reads))
               → (g.num ≡ n) × (g.stamp ≡ s)
           given_of g i =
               let r0 : Parts = with_read (first_read n z w) r in
@@ -219,7 +222,8 @@ module _ (p : Plan) (s : Stamp) (over : Num → ℕ → Window → Type 0) where
           ap (λ y. hit_eq y q.hit) (sym e) ∙ hit_eq-self q.hit in rw a le
 
       once : (qs : List ReadRow) → ((q : ReadRow) → In q qs → q.hit ≡ record_hit r q)
-          → length (changed_of v (record_value (with_read (first_read n z w) r)) (add_row read_key (first_read n z w) qs)) ≤ 1
+          → length (changed_of v (record_value (with_read (first_read n z w) r))
+          (add_row read_key (first_read n z w) qs)) ≤ 1
       once [] own = front (first_read n z w) [] refl
       once (q ∷ qs) own =
           let again = once qs (λ y i. own y (inr i)) in
@@ -239,7 +243,8 @@ pub periods_at : (s : Stamp) (r : Parts) (ps : List PutRow) → ((x : PutRow) �
 periods_at s r [] h x i = elim i [ inl e ↦ ap (λ (z : Period). z.when.from) e | inr b ↦ absurd b ]
 periods_at s r (y ∷ ps) h x i =
     let e : is_after (Some s) y.stamp ≡ false = ap (λ z. stamp_lt s z) (h y (inl refl)) ∙ same_lt s in
-    let f : (is_live r.cuts y && is_after (Some s) y.stamp) ≡ false = none (is_live r.cuts y) (is_after (Some s) y.stamp) e in
+    let f : (is_live r.cuts y && is_after (Some s) y.stamp) ≡ false =
+    none (is_live r.cuts y) (is_after (Some s) y.stamp) e in
     periods_at s r ps (λ z j. h z (inr j)) x (subst (λ b. In x (cond b
     (record { when = record { from = Some s; until = Some y.stamp }; value = record_value r y.stamp }
     ∷ periods_of r (Some y.stamp) ps) (periods_of r (Some s) ps))) f i)

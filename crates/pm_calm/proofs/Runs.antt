@@ -107,7 +107,8 @@ twice_false : (b : Bool) → not (not b) ≡ false → b ≡ false
 twice_false true f = absurd (cc)
 twice_false false f = refl
 
-opens : (b : Bool) (p : Plan) (w : World) (begun : Bool) (x : Mail) → commits begun w ≡ b → In x (mail w.links) → Kept p w
+opens : (b : Bool) (p : Plan) (w : World) (begun : Bool) (x : Mail) → commits begun w ≡ b → In x (mail w.links)
+    → Kept p w
     → Begins begun p w → Opened p (opened b w)
 opens true p w begun x eb ix r bg =
     let k = least_at (mail w.links) x ix in
@@ -238,7 +239,8 @@ lowest_run budget p fit =
 
 -- ---- and of each list of events that it begins with
 
-worlds_left : (p : Plan) (w : World) (es fs : List Event) → EachWorld CalmWorld p w (es ++ fs) → EachWorld CalmWorld p w es
+worlds_left : (p : Plan) (w : World) (es fs : List Event) → EachWorld CalmWorld p w (es ++ fs)
+    → EachWorld CalmWorld p w es
 worlds_left p w [] [] h = h
 worlds_left p w [] (f ∷ fs) h = h.0
 worlds_left p w (e ∷ es) fs h = (h.0, worlds_left p (after_event p w e) es fs h.1)

@@ -43,22 +43,26 @@ use Rattle.pm_message.specs.declared.Message.TheVariants as message
 use Rattle.pm_base.specs.declared.stamp.Line.TheVariants as line
 
 -- the least stamp is a letter's
-pub least_some : (ms : List Mail) (s : Stamp) → least_of ms ≡ line.At s → (y : Mail) × In y ms × (stamp_of y.message ≡ s)
+pub least_some : (ms : List Mail) (s : Stamp) → least_of ms ≡ line.At s → (y : Mail) × In y ms
+    × (stamp_of y.message ≡ s)
 least_some [] s e = absurd (cc)
 least_some (m ∷ ms) s e = go (least_of ms) refl (λ f. least_some ms s f) e
   where
     same : (a b : Stamp) → line.At a ≡ line.At b → a ≡ b
     same a b f = cc
 
-    go : (o : Line) → least_of ms ≡ o → (least_of ms ≡ line.At s → (y : Mail) × In y ms × (stamp_of y.message ≡ s)) → or_lower (stamp_of m.message) o ≡ line.At s → (y : Mail) × In y (m ∷ ms) × (stamp_of y.message ≡ s)
+    go : (o : Line) → least_of ms ≡ o → (least_of ms ≡ line.At s → (y : Mail) × In y ms × (stamp_of y.message ≡ s))
+        → or_lower (stamp_of m.message) o ≡ line.At s → (y : Mail) × In y (m ∷ ms) × (stamp_of y.message ≡ s)
     go line.End f again g = (m, inl refl, same (stamp_of m.message) s g)
     go (line.At t) f again g = by (stamp_lt (stamp_of m.message) t) g
       where
-        by : (b : Bool) → cond b (line.At (stamp_of m.message)) (line.At t) ≡ line.At s → (y : Mail) × In y (m ∷ ms) × (stamp_of y.message ≡ s)
+        by : (b : Bool) → cond b (line.At (stamp_of m.message)) (line.At t) ≡ line.At s → (y : Mail) × In y (m ∷ ms)
+            × (stamp_of y.message ≡ s)
         by true h = (m, inl refl, same (stamp_of m.message) s h)
         by false h = (let o = again (f ∙ h) in (o.0, inr o.1, o.2))
 
-pub stamp_at : (p : Plan) (s : Stamp) (over : Num → ℕ → Window → Type 0) (ph : Phase) (to from : Process) (m : Message) → MailAt p s over ph to from m → (IsWake m × (from ≡ to)) ⊎ (stamp_of m ≡ s)
+pub stamp_at : (p : Plan) (s : Stamp) (over : Num → ℕ → Window → Type 0) (ph : Phase) (to from : Process) (m : Message)
+    → MailAt p s over ph to from m → (IsWake m × (from ≡ to)) ⊎ (stamp_of m ≡ s)
 stamp_at p s over ph to from (message.Wake k z) h = inl ((k, z, refl), h)
 stamp_at p s over ph to from (message.Ask k z y) h = inr h.0
 stamp_at p s over ph to from (message.Put r_n r_t v r_c) h = inr h.0
@@ -107,7 +111,8 @@ lower_ends p h x es em pl =
     by true l f = refl
     by false l f = f
 
-module _ (p : Plan) (w : World) (r : Kept p w) (s : Stamp) (os : List Over) (ph : Phase) (calm : Calm p w s os ph) (order : OrderIn ph p w) (x : Mail) (low : IsLowest p (heads w.links) x) (at : least_line w ≡ line.At s) where
+module _ (p : Plan) (w : World) (r : Kept p w) (s : Stamp) (os : List Over) (ph : Phase) (calm : Calm p w s os ph)
+    (order : OrderIn ph p w) (x : Mail) (low : IsLowest p (heads w.links) x) (at : least_line w ≡ line.At s) where
   abbrev N : ℕ
   N = clps_of p
 
@@ -165,19 +170,24 @@ module _ (p : Plan) (w : World) (r : Kept p w) (s : Stamp) (os : List Over) (ph 
   fits : (y : Mail) → In y (mail w.links) → FitsAt N (length q.values) y.to y.from y.message
   fits y i = sim.fits y i
 
-  wake_fits : (to from : Process) (m : Message) → IsWake m → FitsAt N (length q.values) to from m → (b : ℕ) × (to ≡ AtAgent b)
-  wake_fits (AtClp c) from m (k, z, e) f = absurd (let g : FitsAt N (length q.values) (AtClp c) from (message.Wake k z) = subst (FitsAt N (length q.values) (AtClp c) from) e f in g.1)
+  wake_fits : (to from : Process) (m : Message) → IsWake m → FitsAt N (length q.values) to from m → (b : ℕ)
+      × (to ≡ AtAgent b)
+  wake_fits (AtClp c) from m (k, z, e) f = absurd (let g : FitsAt N (length q.values) (AtClp c) from (message.Wake k z)
+      = subst (FitsAt N (length q.values) (AtClp c) from) e f in g.1)
   wake_fits (AtAgent b) from m h f = (b, refl)
 
-  agent_fits : (to from : Process) (m : Message) (b : ℕ) → to ≡ AtAgent b → FitsAt N (length q.values) to from m → ForAgent b m
+  agent_fits : (to from : Process) (m : Message) (b : ℕ) → to ≡ AtAgent b → FitsAt N (length q.values) to from m
+      → ForAgent b m
   agent_fits (AtClp c) from m b e f = absurd (cc)
   agent_fits (AtAgent a) from m b e f = (let g : a ≡ b = cc in subst (λ i. ForAgent i m) g f)
 
   -- in an agent's own link
-  own_link : (y : Mail) → In y (mail w.links) → (b : ℕ) → y.to ≡ AtAgent b → y.from ≡ AtAgent b → In y.message (wake_of (get_or w.agents b no_agent).awaited)
+  own_link : (y : Mail) → In y (mail w.links) → (b : ℕ) → y.to ≡ AtAgent b → y.from ≡ AtAgent b
+      → In y.message (wake_of (get_or w.agents b no_agent).awaited)
   own_link y i b et ef =
       let lb = low_agent b y.message (agent_fits y.to y.from y.message b et (fits y i)) (ok y i).0 in
-      subst (In y.message) (calm.own b lb) (subst (λ z. In y.message (between (AtAgent b) z w.links)) ef (subst (λ z. In y.message (between z y.from w.links)) et (mail_between w.links r.awake.lanes y i)))
+      subst (In y.message) (calm.own b lb) (subst (λ z. In y.message (between (AtAgent b) z w.links)) ef
+      (subst (λ z. In y.message (between z y.from w.links)) et (mail_between w.links r.awake.lanes y i)))
 
   own_is_wake : (y : Mail) → In y (mail w.links) → (b : ℕ) → y.to ≡ AtAgent b → y.from ≡ AtAgent b → IsWake y.message
   own_is_wake y i b et ef = go (get_or w.agents b no_agent).awaited (own_link y i b et ef)
@@ -193,15 +203,18 @@ module _ (p : Plan) (w : World) (r : Kept p w) (s : Stamp) (os : List Over) (ph 
       let y = least_some (mail w.links) s at in
       let h = mail_head w.links y.0 y.1 in
       let hi = head_mail w.links h.0 h.1 in
-      let es : stamp_of h.0.message ≡ s = elim (stamp_at p s (is_over os) ph h.0.to h.0.from h.0.message (calm.letters h.0 hi)) [
+      let es : stamp_of h.0.message ≡ s = elim (stamp_at p s (is_over os) ph h.0.to h.0.from h.0.message
+      (calm.letters h.0 hi)) [
         | inr f ↦ f
         | inl wk ↦ (let b = wake_fits h.0.to h.0.from h.0.message wk.0 (fits h.0 hi) in
             let a1 = own_link h.0 hi b.0 b.1 (wk.1 ∙ b.1) in
             let a2 = own_link y.0 y.1 b.0 (sym h.2 ∙ b.1) (sym h.3 ∙ (wk.1 ∙ b.1)) in
             ap stamp_of (wake_one (get_or w.agents b.0 no_agent).awaited h.0.message y.0.message a1 a2) ∙ y.2)
       ] in
-      let lt : stamp_lt (stamp_of h.0.message) (stamp_of x.message) ≡ false = left (stamp_lt (stamp_of h.0.message) (stamp_of x.message)) _ (low.least h.0 h.1) in
-      let up : AtMost (stamp_of x.message) s = subst (AtMost (stamp_of x.message)) es (false_lt (stamp_of h.0.message) (stamp_of x.message) lt) in
+      let lt : stamp_lt (stamp_of h.0.message) (stamp_of x.message) ≡ false =
+      left (stamp_lt (stamp_of h.0.message) (stamp_of x.message)) _ (low.least h.0 h.1) in
+      let up : AtMost (stamp_of x.message) s = subst (AtMost (stamp_of x.message)) es
+      (false_lt (stamp_of h.0.message) (stamp_of x.message) lt) in
       let dn : AtMost s (stamp_of x.message) = subst (λ l. NotPast l (stamp_of x.message)) calm.line (ok x x_in).1 in
       stamps_same (stamp_of x.message) s (grind (arith, up, dn)) (grind (arith, up, dn))
     where
@@ -210,7 +223,8 @@ module _ (p : Plan) (w : World) (r : Kept p w) (s : Stamp) (os : List Over) (ph 
       left false b f = refl
 
   -- not lower than the lowest
-  not_lower : (h : Mail) → In h (heads w.links) → stamp_of h.message ≡ s → is_moving x.message ≡ false → link_before (number p h.to) (number p h.from) (number p x.to) (number p x.from) ≡ true → ⊥
+  not_lower : (h : Mail) → In h (heads w.links) → stamp_of h.message ≡ s → is_moving x.message ≡ false
+      → link_before (number p h.to) (number p h.from) (number p x.to) (number p x.from) ≡ true → ⊥
   not_lower h i e em pl = (let a = lower_ends p h x (e ∙ sym stamp_x) em pl in let b = low.least h i in cc)
 
   module _ (a : ℕ) (ex : x.to ≡ AtAgent a) where
@@ -233,20 +247,27 @@ module _ (p : Plan) (w : World) (r : Kept p w) (s : Stamp) (os : List Over) (ph 
         let hi = head_mail w.links h.0 h.1 in
         let eh : h.0.to ≡ AtClp c = h.2 ∙ ey in
         let lc = to_low h.0 hi c eh in
-        let es : stamp_of h.0.message ≡ s = elim (stamp_at p s (is_over os) ph h.0.to h.0.from h.0.message (calm.letters h.0 hi)) [
+        let es : stamp_of h.0.message ≡ s = elim (stamp_at p s (is_over os) ph h.0.to h.0.from h.0.message
+        (calm.letters h.0 hi)) [
           | inr f ↦ f
-          | inl wk ↦ absurd (let b = wake_fits h.0.to h.0.from h.0.message wk.0 (fits h.0 hi) in let z : AtClp c ≡ AtAgent b.0 = sym eh ∙ b.1 in cc)
+          | inl wk ↦ absurd (let b = wake_fits h.0.to h.0.from h.0.message wk.0 (fits h.0 hi) in
+              let z : AtClp c ≡ AtAgent b.0 = sym eh ∙ b.1 in cc)
         ] in
-        not_lower h.0 h.1 es still (subst (λ z. link_before (number p z) (number p h.0.from) (number p x.to) (number p x.from) ≡ true) (sym eh) (subst (λ z. link_before c (number p h.0.from) (number p z) (number p x.from) ≡ true) (sym ex) (less c (number p h.0.from) (clps_of p + a) (number p x.from) (omega arith))))
+        not_lower h.0 h.1 es still (subst (λ z. link_before (number p z) (number p h.0.from) (number p x.to)
+        (number p x.from) ≡ true) (sym eh) (subst
+        (λ z. link_before c (number p h.0.from) (number p z) (number p x.from) ≡ true) (sym ex)
+        (less c (number p h.0.from) (clps_of p + a) (number p x.from) (omega arith))))
       where
         less : (i j k l : ℕ) → i < k → link_before i j k l ≡ true
         less i j k l lt = grind (arith, nat_tests, lt)
 
     -- what else is on its way is a Wake, or an answer from the home's link
-    others : (y : Mail) → In y (mail w.links) → IsWake y.message ⊎ ((y.to ≡ AtAgent a) × (d : ℕ) × (y.from ≡ AtClp d) × (d < N) × (stamp_of y.message ≡ s))
+    others : (y : Mail) → In y (mail w.links) → IsWake y.message
+        ⊎ ((y.to ≡ AtAgent a) × (d : ℕ) × (y.from ≡ AtClp d) × (d < N) × (stamp_of y.message ≡ s))
     others y i = by y.to refl
       where
-        by : (to : Process) → y.to ≡ to → IsWake y.message ⊎ ((y.to ≡ AtAgent a) × (d : ℕ) × (y.from ≡ AtClp d) × (d < N) × (stamp_of y.message ≡ s))
+        by : (to : Process) → y.to ≡ to → IsWake y.message
+            ⊎ ((y.to ≡ AtAgent a) × (d : ℕ) × (y.from ≡ AtClp d) × (d < N) × (stamp_of y.message ≡ s))
         by (AtClp c) ey = absurd (shut y i c ey)
         by (AtAgent b) ey = elim (stamp_at p s (is_over os) ph y.to y.from y.message (calm.letters y i)) [
           | inl wk ↦ inl wk.0
@@ -256,9 +277,12 @@ module _ (p : Plan) (w : World) (r : Kept p w) (s : Stamp) (os : List Over) (ph 
             eb : stamp_of y.message ≡ s → b ≡ a
             eb es = own_agent b y.message (agent_fits y.to y.from y.message b ey (fits y i)) (ok y i).0 es ∙ sym a_is
 
-            from_is : (f : Process) → y.from ≡ f → stamp_of y.message ≡ s → IsWake y.message ⊎ ((y.to ≡ AtAgent a) × (d : ℕ) × (y.from ≡ AtClp d) × (d < N) × (stamp_of y.message ≡ s))
+            from_is : (f : Process) → y.from ≡ f → stamp_of y.message ≡ s → IsWake y.message
+                ⊎ ((y.to ≡ AtAgent a) × (d : ℕ) × (y.from ≡ AtClp d) × (d < N) × (stamp_of y.message ≡ s))
             from_is (AtClp d) ef es = inr (ey ∙ ap AtAgent (eb es), d, ef, from_low y i d ef, es)
-            from_is (AtAgent b') ef es = inl (own_is_wake y i b ey (ef ∙ ap AtAgent (sym (same (subst (LinkOk p (AtAgent b)) ef (subst (λ z. LinkOk p z y.from) ey (r.awake.linked.mail y i).0))))))
+            from_is (AtAgent b') ef es = inl (own_is_wake y i b ey (ef
+                ∙ ap AtAgent (sym (same (subst (LinkOk p (AtAgent b)) ef
+                (subst (λ z. LinkOk p z y.from) ey (r.awake.linked.mail y i).0))))))
               where
                 same : LinkOk p (AtAgent b) (AtAgent b') → b ≡ b'
                 same l = l
@@ -275,25 +299,36 @@ module _ (p : Plan) (w : World) (r : Kept p w) (s : Stamp) (os : List Over) (ph 
             let hi = head_mail w.links h.0 h.1 in
             let eh : h.0.from ≡ AtClp o.1 = h.3 ∙ o.2 in
             let et : h.0.to ≡ AtAgent a = h.2 ∙ o.0 in
-            let es : stamp_of h.0.message ≡ s = elim (stamp_at p s (is_over os) ph h.0.to h.0.from h.0.message (calm.letters h.0 hi)) [
+            let es : stamp_of h.0.message ≡ s = elim
+            (stamp_at p s (is_over os) ph h.0.to h.0.from h.0.message (calm.letters h.0 hi)) [
               | inr f ↦ f
               | inl v ↦ absurd (let z : AtClp o.1 ≡ AtAgent a = sym eh ∙ (v.1 ∙ et) in cc)
             ] in
             let xf : x.from ≡ AtAgent a = x_self wk ∙ ex in
-            not_lower h.0 h.1 es still (subst (λ z. link_before (number p z) (number p h.0.from) (number p x.to) (number p x.from) ≡ true) (sym et) (subst (λ z. link_before (clps_of p + a) (number p z) (number p x.to) (number p x.from) ≡ true) (sym eh)
-            (subst (λ z. link_before (clps_of p + a) o.1 (number p z) (number p x.from) ≡ true) (sym ex) (subst (λ z. link_before (clps_of p + a) o.1 (clps_of p + a) (number p z) ≡ true) (sym xf) (less (clps_of p + a) o.1 (clps_of p + a) (let l = o.3 in omega arith)))))))
+            not_lower h.0 h.1 es still (subst (λ z.
+            link_before (number p z) (number p h.0.from) (number p x.to) (number p x.from) ≡ true) (sym et)
+            (subst (λ z. link_before (clps_of p + a) (number p z) (number p x.to) (number p x.from) ≡ true) (sym eh)
+            (subst (λ z. link_before (clps_of p + a) o.1 (number p z) (number p x.from) ≡ true) (sym ex)
+            (subst (λ z. link_before (clps_of p + a) o.1 (clps_of p + a) (number p z) ≡ true) (sym xf)
+            (less (clps_of p + a) o.1 (clps_of p + a) (let l = o.3 in omega arith)))))))
       ]
         where
           less : (i j l : ℕ) → j < l → link_before i j i l ≡ true
           less i j l lt = grind (arith, nat_tests, lt)
 
           x_self : IsWake x.message → x.from ≡ x.to
-          x_self v = elim (stamp_at p s (is_over os) ph x.to x.from x.message (calm.letters x x_in)) [ inl f ↦ f.1 | inr f ↦ (let g : MailAt p s (is_over os) ph x.to x.from (message.Wake v.0 v.1) = subst (MailAt p s (is_over os) ph x.to x.from) v.2 (calm.letters x x_in) in g) ]
+          x_self v = elim (stamp_at p s (is_over os) ph x.to x.from x.message (calm.letters x x_in)) [
+            | inl f ↦ f.1
+            | inr f ↦ (let g : MailAt p s (is_over os) ph x.to x.from (message.Wake v.0 v.1) =
+                subst (MailAt p s (is_over os) ph x.to x.from) v.2 (calm.letters x x_in) in g)
+          ]
 
-      single_quiet : (g : GiveRow) → x.message ≡ message.Give g → (n : Num) (v : ℕ) → ph ≡ Single n v → (y : Mail) → In y (mail t.links) → IsWake y.message
+      single_quiet : (g : GiveRow) → x.message ≡ message.Give g → (n : Num) (v : ℕ) → ph ≡ Single n v → (y : Mail)
+          → In y (mail t.links) → IsWake y.message
       single_quiet g eg n v ep y i = elim (others y (was y i)) [
         | inl f ↦ f
-        | inr o ↦ absurd (go y.message refl o.0 (agent_fits y.to y.from y.message a o.0 (fits y (was y i))) (λ k z f. let q1 : AtClp o.1 ≡ AtAgent a = sym o.2 ∙ (wake_self k z f ∙ o.0) in cc))
+        | inr o ↦ absurd (go y.message refl o.0 (agent_fits y.to y.from y.message a o.0 (fits y (was y i)))
+            (λ k z f. let q1 : AtClp o.1 ≡ AtAgent a = sym o.2 ∙ (wake_self k z f ∙ o.0) in cc))
       ]
         where
           letter : MailAt p s (is_over os) (Single n v) y.to y.from y.message
@@ -302,41 +337,62 @@ module _ (p : Plan) (w : World) (r : Kept p w) (s : Stamp) (os : List Over) (ph 
           few : tally (λ (z : Mail). token (Single n v) z.message) (mail t.links) ≡ 0
           few =
               let c = (taken (AtAgent a) x.from w.links t e).count (λ (z : Mail). token (Single n v) z.message) in
-              let tk : one_if (token (Single n v) t.message) 0 ≡ 1 = ap (λ m. one_if (token (Single n v) m) 0) (em ∙ eg) in
-              let o = subst (λ z. tally (λ (m : Mail). token z m.message) (mail w.links) ≤ 1) ep calm.tokens in omega arith
+              let tk : one_if (token (Single n v) t.message) 0 ≡ 1 =
+              ap (λ m. one_if (token (Single n v) m) 0) (em ∙ eg) in
+              let o = subst (λ z. tally (λ (m : Mail). token z m.message) (mail w.links) ≤ 1) ep calm.tokens in
+              omega arith
 
           wake_self : (k : Num) (z : Stamp) → y.message ≡ message.Wake k z → y.from ≡ y.to
-          wake_self k z f = (let h : MailAt p s (is_over os) (Single n v) y.to y.from (message.Wake k z) = subst (MailAt p s (is_over os) (Single n v) y.to y.from) f letter in h)
+          wake_self k z f = (let h : MailAt p s (is_over os) (Single n v) y.to y.from (message.Wake k z) =
+              subst (MailAt p s (is_over os) (Single n v) y.to y.from) f letter in h)
 
           -- a letter to an agent that is no Wake
-          go : (m : Message) → y.message ≡ m → y.to ≡ AtAgent a → ForAgent a m → ((k : Num) (z : Stamp) → y.message ≡ message.Wake k z → ⊥) → ⊥
+          go : (m : Message) → y.message ≡ m → y.to ≡ AtAgent a → ForAgent a m
+              → ((k : Num) (z : Stamp) → y.message ≡ message.Wake k z → ⊥) → ⊥
           go (message.Wake k z) f et h nw = nw k z f
-          go (message.Give g') f et h nw = (let one = tally_in (λ (z : Mail). token (Single n v) z.message) (mail t.links) y i (ap (token (Single n v)) f) in let z = few in omega arith)
-          go (message.Finish k z) f et h nw = (let b : MailAt p s (is_over os) (Single n v) y.to y.from (message.Finish k z) = subst (MailAt p s (is_over os) (Single n v) y.to y.from) f letter in subst IsClp et b.1)
+          go (message.Give g') f et h nw = (let one =
+              tally_in (λ (z : Mail). token (Single n v) z.message) (mail t.links) y i (ap (token (Single n v)) f) in
+              let z = few in omega arith)
+          go (message.Finish k z) f et h nw = (let b : MailAt p s (is_over os) (Single n v) y.to y.from
+              (message.Finish k z) = subst (MailAt p s (is_over os) (Single n v) y.to y.from) f letter in
+              subst IsClp et b.1)
           go (message.Ask k z y') f et h nw = h
           go (message.Put r_n r_t u r_c) f et h nw = h
           go (message.Cut r_n r_t u) f et h nw = h
           go (message.Move u z y') f et h nw = h
           go (message.Grow k z u y') f et h nw = h
 
-      finish_quiet : (k : Num) (z : Stamp) → x.message ≡ message.Finish k z → (n : Num) (i : ℕ) (u : Window) → ph ≡ Range n i u → (y : Mail) → In y (mail t.links) → IsWake y.message
+      finish_quiet : (k : Num) (z : Stamp) → x.message ≡ message.Finish k z → (n : Num) (i : ℕ) (u : Window)
+          → ph ≡ Range n i u → (y : Mail) → In y (mail t.links) → IsWake y.message
       finish_quiet k z ef n i u ep y iy = elim (others y (was y iy)) [
         | inl f ↦ f
         | inr o ↦ elim (others x x_in) [
           | inl wk ↦ absurd (let f : message.Finish k z ≡ message.Wake wk.0 wk.1 = sym ef ∙ wk.2 in cc)
           | inr xo ↦ absurd (
-              let hx : home p a ≡ xo.1 = (subst (LinkOk p (AtAgent a)) xo.2 (subst (λ v. LinkOk p v x.from) ex (r.awake.linked.mail x x_in).0)) in
-              let hy : home p a ≡ o.1 = (subst (LinkOk p (AtAgent a)) o.2 (subst (λ v. LinkOk p v y.from) o.0 (r.awake.linked.mail y (was y iy)).0)) in
+              let hx : home p a ≡ xo.1 = (subst (LinkOk p (AtAgent a)) xo.2
+              (subst (λ v. LinkOk p v x.from) ex (r.awake.linked.mail x x_in).0)) in
+              let hy : home p a ≡ o.1 = (subst (LinkOk p (AtAgent a)) o.2
+              (subst (λ v. LinkOk p v y.from) o.0 (r.awake.linked.mail y (was y iy)).0)) in
               let fx : x.from ≡ AtClp o.1 = xo.2 ∙ ap AtClp (sym hx ∙ hy) in
               let ord : InOrder p n (queries_at w) w.links = subst (λ v. OrderIn v p w) ep order in
-              let td : Tidy (t.message ∷ between (AtAgent a) x.from t.links) = subst Tidy (took (AtAgent a) x.from w.links t e).head (subst (λ v. Tidy (between (AtAgent a) v w.links)) (sym fx) (ord.tidy (AtAgent a) o.1)) in
-              let j : In y.message (between y.to y.from t.links) = mail_between t.links (lanes_taken (AtAgent a) x.from w.links t e r.awake.lanes) y iy in
-              let j2 : In y.message (between (AtAgent a) x.from t.links) = subst (λ v. In y.message (between (AtAgent a) v t.links)) (o.2 ∙ sym fx) (subst (λ v. In y.message (between v y.from t.links)) o.0 j) in
-              td.0 (subst IsFinish (sym (em ∙ ef)) tt) y.message j2 (answer y.message (agent_fits y.to y.from y.message a o.0 (fits y (was y iy))) refl (λ k' z' f. let g : MailAt p s (is_over os) ph y.to y.from (message.Wake k' z') = subst (MailAt p s (is_over os) ph y.to y.from) f (calm.letters y (was y iy)) in let q1 : AtClp o.1 ≡ AtAgent a = sym o.2 ∙ (g ∙ o.0) in cc)))
+              let td : Tidy (t.message ∷ between (AtAgent a) x.from t.links) =
+              subst Tidy (took (AtAgent a) x.from w.links t e).head
+              (subst (λ v. Tidy (between (AtAgent a) v w.links)) (sym fx) (ord.tidy (AtAgent a) o.1)) in
+              let j : In y.message (between y.to y.from t.links) =
+              mail_between t.links (lanes_taken (AtAgent a) x.from w.links t e r.awake.lanes) y iy in
+              let j2 : In y.message (between (AtAgent a) x.from t.links) =
+              subst (λ v. In y.message (between (AtAgent a) v t.links)) (o.2 ∙ sym fx)
+              (subst (λ v. In y.message (between v y.from t.links)) o.0 j) in
+              td.0 (subst IsFinish (sym (em ∙ ef)) tt) y.message j2
+              (answer y.message (agent_fits y.to y.from y.message a o.0 (fits y (was y iy))) refl
+              (λ k' z' f. let g : MailAt p s (is_over os) ph y.to y.from (message.Wake k' z') =
+              subst (MailAt p s (is_over os) ph y.to y.from) f (calm.letters y (was y iy)) in
+              let q1 : AtClp o.1 ≡ AtAgent a = sym o.2 ∙ (g ∙ o.0) in cc)))
         ]
       ]
         where
-          answer : (m : Message) → ForAgent a m → y.message ≡ m → ((k' : Num) (z' : Stamp) → y.message ≡ message.Wake k' z' → ⊥) → IsAnswer m
+          answer : (m : Message) → ForAgent a m → y.message ≡ m
+              → ((k' : Num) (z' : Stamp) → y.message ≡ message.Wake k' z' → ⊥) → IsAnswer m
           answer (message.Wake k' z') h f nw = absurd (nw k' z' f)
           answer (message.Give g) h f nw = tt
           answer (message.Finish k' z') h f nw = tt
@@ -347,24 +403,45 @@ module _ (p : Plan) (w : World) (r : Kept p w) (s : Stamp) (os : List Over) (ph 
           answer (message.Grow k' z' v y') h f nw = absurd h
 
       -- an agent's delivery
-      agent_step : (os' : List Over) × (ph' : Phase) × Calm p (arrives p w (AtAgent a) x.from t.message t.links) s os' ph' × OrderIn ph' p (arrives p w (AtAgent a) x.from t.message t.links)
+      agent_step : (os' : List Over) × (ph' : Phase)
+          × Calm p (arrives p w (AtAgent a) x.from t.message t.links) s os' ph'
+          × OrderIn ph' p (arrives p w (AtAgent a) x.from t.message t.links)
       agent_step = by x.message refl for_a
         where
           st : stamp_of t.message ≡ s
           st = ap stamp_of em ∙ stamp_x
 
-          by : (m : Message) → x.message ≡ m → ForAgent a m → (os' : List Over) × (ph' : Phase) × Calm p (arrives p w (AtAgent a) x.from t.message t.links) s os' ph' × OrderIn ph' p (arrives p w (AtAgent a) x.from t.message t.links)
-          by (message.Wake k z) f h = subst (λ m. (os' : List Over) × (ph' : Phase) × Calm p (arrives p w (AtAgent a) x.from m t.links) s os' ph' × OrderIn ph' p (arrives p w (AtAgent a) x.from m t.links)) (sym (em ∙ f))
-              (wake_calm p q w recs sim r.awake.linked s os ph calm a la x.from t e st k z (em ∙ f) (wake_quiet (k, z, f)))
-          by (message.Give g) f h = subst (λ m. (os' : List Over) × (ph' : Phase) × Calm p (arrives p w (AtAgent a) x.from m t.links) s os' ph' × OrderIn ph' p (arrives p w (AtAgent a) x.from m t.links)) (sym (em ∙ f))
-              (give_calm p q w recs sim r.awake.linked s os ph calm a la x.from t e st order g (em ∙ f) (single_quiet g f))
-          by (message.Finish k z) f h = subst (λ m. (os' : List Over) × (ph' : Phase) × Calm p (arrives p w (AtAgent a) x.from m t.links) s os' ph' × OrderIn ph' p (arrives p w (AtAgent a) x.from m t.links)) (sym (em ∙ f))
-              (finish_calm p q w recs sim r.awake.linked s os ph calm a la x.from t e st full.asked full.bounds shut k z (em ∙ f) order (fq ph refl k z f))
+          by : (m : Message) → x.message ≡ m → ForAgent a m → (os' : List Over) × (ph' : Phase)
+              × Calm p (arrives p w (AtAgent a) x.from t.message t.links) s os' ph'
+              × OrderIn ph' p (arrives p w (AtAgent a) x.from t.message t.links)
+          by (message.Wake k z) f h = subst (λ m. (os' : List Over) × (ph' : Phase)
+              × Calm p (arrives p w (AtAgent a) x.from m t.links) s os' ph'
+              × OrderIn ph' p (arrives p w (AtAgent a) x.from m t.links)) (sym (em ∙ f))
+              (wake_calm p q w recs sim r.awake.linked s os ph calm a la x.from t e st k z (em ∙ f)
+              (wake_quiet (k, z, f)))
+          by (message.Give g) f h = subst (λ m. (os' : List Over) × (ph' : Phase)
+              × Calm p (arrives p w (AtAgent a) x.from m t.links) s os' ph'
+              × OrderIn ph' p (arrives p w (AtAgent a) x.from m t.links)) (sym (em ∙ f))
+              (give_calm p q w recs sim r.awake.linked s os ph calm a la x.from t e st order g (em ∙ f)
+              (single_quiet g f))
+          by (message.Finish k z) f h = subst (λ m. (os' : List Over) × (ph' : Phase)
+              × Calm p (arrives p w (AtAgent a) x.from m t.links) s os' ph'
+              × OrderIn ph' p (arrives p w (AtAgent a) x.from m t.links)) (sym (em ∙ f))
+              (finish_calm p q w recs sim r.awake.linked s os ph calm a la x.from t e st full.asked full.bounds shut k z
+              (em ∙ f) order (fq ph refl k z f))
             where
-              fq : (v : Phase) → ph ≡ v → (k : Num) (z : Stamp) → x.message ≡ message.Finish k z → (y : Mail) → In y (mail t.links) → IsWake y.message
+              fq : (v : Phase) → ph ≡ v → (k : Num) (z : Stamp) → x.message ≡ message.Finish k z → (y : Mail)
+                  → In y (mail t.links) → IsWake y.message
               fq (Range n i u) ep k z f y iy = finish_quiet k z f n i u ep y iy
-              fq Idle ep k z f y iy = absurd (let b : MailAt p s (is_over os) Idle x.to x.from (message.Finish k z) = subst (MailAt p s (is_over os) Idle x.to x.from) f (subst (λ v. MailAt p s (is_over os) v x.to x.from x.message) ep (calm.letters x x_in)) in subst IsClp ex b.1)
-              fq (Single n v) ep k z f y iy = absurd (let b : MailAt p s (is_over os) (Single n v) x.to x.from (message.Finish k z) = subst (MailAt p s (is_over os) (Single n v) x.to x.from) f (subst (λ v. MailAt p s (is_over os) v x.to x.from x.message) ep (calm.letters x x_in)) in subst IsClp ex b.1)
+              fq Idle ep k z f y iy = absurd (let b : MailAt p s (is_over os) Idle x.to x.from (message.Finish k z) =
+                  subst (MailAt p s (is_over os) Idle x.to x.from) f
+                  (subst (λ v. MailAt p s (is_over os) v x.to x.from x.message) ep (calm.letters x x_in)) in
+                  subst IsClp ex b.1)
+              fq (Single n v) ep k z f y iy = absurd
+                  (let b : MailAt p s (is_over os) (Single n v) x.to x.from (message.Finish k z) =
+                  subst (MailAt p s (is_over os) (Single n v) x.to x.from) f
+                  (subst (λ v. MailAt p s (is_over os) v x.to x.from x.message) ep (calm.letters x x_in)) in
+                  subst IsClp ex b.1)
           by (message.Ask k z y) f h = absurd h
           by (message.Put r_n r_t v r_c) f h = absurd h
           by (message.Cut r_n r_t v) f h = absurd h
@@ -372,22 +449,39 @@ module _ (p : Plan) (w : World) (r : Kept p w) (s : Stamp) (os : List Over) (ph 
           by (message.Grow k z u y) f h = absurd h
 
       -- a message.Give that is taken names an incomplete sense
-      pub give_opens : (g : GiveRow) → x.message ≡ message.Give g → (y : Spot) × (find g.num (get_or w.agents a no_agent).steps ≡ Some y) × (y.sense.complete ≡ false)
-      give_opens g f = give_found p q w recs sim r.awake.linked s os ph calm a la x.from t e (ap stamp_of em ∙ stamp_x) g (em ∙ f)
+      pub give_opens : (g : GiveRow) → x.message ≡ message.Give g → (y : Spot)
+          × (find g.num (get_or w.agents a no_agent).steps ≡ Some y) × (y.sense.complete ≡ false)
+      give_opens g f = give_found p q w recs sim r.awake.linked s os ph calm a la x.from t e (ap stamp_of em ∙ stamp_x)
+          g (em ∙ f)
 
   -- the next world is calm
-  pub next_calm : (os' : List Over) × (ph' : Phase) × Calm p (deliver p w x.to x.from) s os' ph' × OrderIn ph' p (deliver p w x.to x.from)
-  next_calm = (let t = taken_head w.links r.awake.lanes x low.there in subst (λ (o : Option Taken). (os' : List Over) × (ph' : Phase) × Calm p (delivered p w x.to x.from o) s os' ph' × OrderIn ph' p (delivered p w x.to x.from o)) (sym t.1) (by x.to refl t.0 t.1 t.2))
+  pub next_calm : (os' : List Over) × (ph' : Phase) × Calm p (deliver p w x.to x.from) s os' ph'
+      × OrderIn ph' p (deliver p w x.to x.from)
+  next_calm = (let t = taken_head w.links r.awake.lanes x low.there in
+      subst (λ (o : Option Taken). (os' : List Over) × (ph' : Phase) × Calm p (delivered p w x.to x.from o) s os' ph'
+      × OrderIn ph' p (delivered p w x.to x.from o)) (sym t.1) (by x.to refl t.0 t.1 t.2))
     where
-      by : (to : Process) → x.to ≡ to → (t : Taken) → take_from x.to x.from w.links ≡ Some t → t.message ≡ x.message → (os' : List Over) × (ph' : Phase) × Calm p (arrives p w x.to x.from t.message t.links) s os' ph' × OrderIn ph' p (arrives p w x.to x.from t.message t.links)
-      by (AtAgent a) ex t e em = subst (λ v. (os' : List Over) × (ph' : Phase) × Calm p (arrives p w v x.from t.message t.links) s os' ph' × OrderIn ph' p (arrives p w v x.from t.message t.links)) (sym ex)
+      by : (to : Process) → x.to ≡ to → (t : Taken) → take_from x.to x.from w.links ≡ Some t → t.message ≡ x.message
+          → (os' : List Over) × (ph' : Phase) × Calm p (arrives p w x.to x.from t.message t.links) s os' ph'
+          × OrderIn ph' p (arrives p w x.to x.from t.message t.links)
+      by (AtAgent a) ex t e em = subst (λ v. (os' : List Over) × (ph' : Phase)
+          × Calm p (arrives p w v x.from t.message t.links) s os' ph'
+          × OrderIn ph' p (arrives p w v x.from t.message t.links)) (sym ex)
           (agent_step a ex t (subst (λ v. take_from v x.from w.links ≡ Some t) ex e) em)
-      by (AtClp c) ex t e em = subst (λ v. (os' : List Over) × (ph' : Phase) × Calm p (arrives p w v x.from t.message t.links) s os' ph' × OrderIn ph' p (arrives p w v x.from t.message t.links)) (sym ex)
+      by (AtClp c) ex t e em = subst (λ v. (os' : List Over) × (ph' : Phase)
+          × Calm p (arrives p w v x.from t.message t.links) s os' ph'
+          × OrderIn ph' p (arrives p w v x.from t.message t.links)) (sym ex)
           (let e' = subst (λ v. take_from v x.from w.links ≡ Some t) ex e in
-          let lc = to_low x x_in c ex in
-          (os, ph, calm_clp p q w recs sim r.awake.linked s os ph calm c lc x.from t e', ordered ph calm order c lc t e'))
+          let lc = to_low x x_in c ex in (
+            os,
+            ph,
+            calm_clp p q w recs sim r.awake.linked s os ph calm c lc x.from t e',
+            ordered ph calm order c lc t e',
+          ))
         where
-          ordered : (v : Phase) (cm : Calm p w s os v) → OrderIn v p w → (c : ℕ) (lc : c < clps_of p) (t : Taken) (e : take_from (AtClp c) x.from w.links ≡ Some t) → OrderIn v p (arrives p w (AtClp c) x.from t.message t.links)
+          ordered : (v : Phase) (cm : Calm p w s os v) → OrderIn v p w
+              → (c : ℕ) (lc : c < clps_of p) (t : Taken) (e : take_from (AtClp c) x.from w.links ≡ Some t)
+              → OrderIn v p (arrives p w (AtClp c) x.from t.message t.links)
           ordered Idle cm o c lc t e = tt
           ordered (Single n v) cm o c lc t e = tt
           ordered (Range n i u) cm o c lc t e = order_clp p q w recs sim r.awake.linked s os n i u cm o c lc x.from t e

@@ -145,7 +145,8 @@ pub record AgentAt (s : Stamp) (ph : Phase) (a : Agent) : Type 0 where
 
 -- agent i has sense n
 abbrev pub HasSense : World → Num → Type 0
-HasSense w n = (n.agent < length w.agents) × (t : KeptStep) × (x : KeptSense) × In t (get_or w.agents n.agent no_agent).steps × In x t.senses × (x.num ≡ n)
+HasSense w n = (n.agent < length w.agents) × (t : KeptStep) × (x : KeptSense)
+    × In t (get_or w.agents n.agent no_agent).steps × In x t.senses × (x.num ≡ n)
 
 abbrev pub OpenIn : Phase → World → Type 0
 OpenIn Idle w = Unit {0}
@@ -161,7 +162,8 @@ pub record Calm (p : Plan) (w : World) (s : Stamp) (os : List Over) (ph : Phase)
   pub agents : (i : ℕ) → i < length w.agents → AgentAt s ph (get_or w.agents i no_agent)
   pub opens : OpenIn ph w
   -- an agent's own link has the Wake that it awaits, and no other
-  pub own : (i : ℕ) → i < length w.agents → between (AtAgent i) (AtAgent i) w.links ≡ wake_of (get_or w.agents i no_agent).awaited
+  pub own : (i : ℕ) → i < length w.agents → between (AtAgent i) (AtAgent i) w.links ≡ wake_of
+      (get_or w.agents i no_agent).awaited
 
 -- the order of answers: behind a CLP's Finish of the open class query comes no Give of it and no other Finish
 abbrev pub IsFinish : Message → Type 0
@@ -198,10 +200,12 @@ Ended n qs d = (r : Registered) × In r (qs d) × (r.num ≡ n) × (r.waits ≡ 
 pub record InOrder (p : Plan) (n : Num) (qs : ℕ → List Registered) (ls : List Link) : Type 0 where
   pub tidy : (to : Process) (e : ℕ) → Tidy (between to (AtClp e) ls)
   pub gives : (d e : ℕ) (g : GiveRow) → In (message.Give g) (between (AtClp d) (AtClp e) ls) → Waiting n qs d e
-  pub ends : (to : Process) (e : ℕ) (k : Num) (z : Stamp) → In (message.Finish k z) (between to (AtClp e) ls) → Ended n qs e
+  pub ends : (to : Process) (e : ℕ) (k : Num) (z : Stamp) → In (message.Finish k z) (between to (AtClp e) ls)
+      → Ended n qs e
   pub up : (d c : ℕ) (r : Registered) → d < clps_of p → In r (qs d) → r.num ≡ n
       → process p r.from ≡ AtClp c → (r.waits ≡ [] → ⊥) → Waiting n qs c d
-  pub asks : (d c : ℕ) (k : Num) (z : Stamp) (q : Query) → In (message.Ask k z q) (between (AtClp d) (AtClp c) ls) → Waiting n qs c d
+  pub asks : (d c : ℕ) (k : Num) (z : Stamp) (q : Query) → In (message.Ask k z q) (between (AtClp d) (AtClp c) ls)
+      → Waiting n qs c d
 
 abbrev pub OrderIn : Phase → Plan → World → Type 0
 OrderIn Idle p w = Unit {0}

@@ -26,7 +26,8 @@ one_more = stmt.Set (Var 0) (expr.Bin op.Add (expr.Part 0 field.X) (num 1)) (num
 
 -- one agent counts up at times 0, 1 and 2
 abbrev pub counting : Plan
-counting = record (plan 0 root 1 (var (codes "c0") 0 0 ∷ []) (agent (codes "ant") 0 (read 0 ∷ []) one_more ∷ [])) { horizon = 2 }
+counting = record (plan 0 root 1 (var (codes "c0") 0 0 ∷ []) (agent (codes "ant") 0 (read 0 ∷ []) one_more ∷ []))
+    { horizon = 2 }
 
 -- each step: the Wake, the Ask, the Give and the Put
 abbrev pub one_step : List Event
