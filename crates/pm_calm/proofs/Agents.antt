@@ -96,7 +96,7 @@ module _ (p : Plan) (q : State) (w : World) (recs : ℕ → Parts) (sim : Sim p 
   only : a ≡ s.agent → (i : ℕ) → i < length w.agents → (i ≡ a → ⊥) → (get_or w.agents i no_agent).steps ≡ []
   only ea i li ne = no_elements (get_or w.agents i no_agent).steps (λ z j. ne (sym (agent_of_step i li z j) ∙ sym ea))
 
-  -- an incomplete sense: no message.Wake is awaited
+  -- an incomplete sense: no Wake is awaited
   none_awaited : (z : KeptStep) (x : KeptSense) → In z ag.steps → In x z.senses → x.complete ≡ false → ag.awaited ≡ None
   none_awaited z x i j f = open_alone sim.issued p.horizon (rule_at p a) a _ _ ag.steps ag.awaited
       (sim.core.agent a la).chain z x i j f
@@ -606,7 +606,7 @@ module _ (p : Plan) (q : State) (w : World) (recs : ℕ → Parts) (sim : Sim p 
             (empty_own x.here x.sense op.here op.sense os'.1 clp) es (record x.sense { complete = true })
             refl refl refl)))
           where
-            -- a message.Finish comes from a CLP, since an agent's own link has Wakes alone
+            -- a Finish comes from a CLP, since an agent's own link has Wakes alone
             of_clp : (f : Process) → from ≡ f → IsClp f
             of_clp (AtClp c) ef = tt
             of_clp (AtAgent b) ef = absurd (

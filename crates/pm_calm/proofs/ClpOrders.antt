@@ -136,7 +136,7 @@ forwards_tidy p c from r (d ∷ ds) = tidy_plain (map (λ (y : Sent). y.message)
     let o2 = in_map (λ e. record { to = e; message = ask_of r }) (d ∷ ds) o.0 o.1 in
     subst IsFinish (o.2 ∙ ap (λ (y : Sent). y.message) o2.2) f)
 
--- what is forwarded: the message.Finish to where it came from, where nothing else is; or Asks
+-- what is forwarded: the Finish to where it came from, where nothing else is; or Asks
 forwards_is : (p : Plan) (c : ℕ) (from : ℕ) (r : Registered) (ds : List ℕ) (y : Sent)
     → In y (forwards (hub_of p c) from r ds)
     → ((ds ≡ []) × (y ≡ record { to = from; message = message.Finish r.num r.stamp }))
@@ -145,7 +145,7 @@ forwards_is p c from r [] y i = inl (refl, elim i [ inl e ↦ e | inr b ↦ absu
 forwards_is p c from r (d ∷ ds) y i = inr (let o = in_map (λ e. record { to = e; message = ask_of r }) (d ∷ ds) y i in
     (o.0, o.1, o.2))
 
--- a message.Finish finds a query that waits for the port, or nothing happens
+-- a Finish finds a query that waits for the port, or nothing happens
 finish_had : (k : Num) (d : ℕ) (rs : List Registered)
     → (((finish_in k d rs).queries ≡ rs) × ((finish_in k d rs).sent ≡ []))
     ⊎ ((r : Registered) × In r rs × (r.num ≡ k) × (has d r.waits ≡ true))
@@ -262,7 +262,7 @@ module _ (p : Plan) (q : State) (w : World) (recs : ℕ → Parts) (sim : Sim p 
         ]
   ]
 
-  -- c sends tidily, and has sent no message.Finish before
+  -- c sends tidily, and has sent no Finish before
   tidy_after : Tidy (map (λ (y : Sent). y.message) D.sent)
       → ((to : Process) (m : Message) → In m (between to (AtClp c) w.links) → IsFinish m → ⊥) → (to : Process) (d : ℕ)
       → Tidy (between to (AtClp d) W.links)
@@ -303,7 +303,7 @@ module _ (p : Plan) (q : State) (w : World) (recs : ℕ → Parts) (sim : Sim p 
   waits_not : (d : ℕ) (xs : List ℕ) → In d xs → xs ≡ [] → ⊥
   waits_not d xs j f = subst (In d) f j
 
-  -- a message.Give or another letter goes on: the queries stay
+  -- a Give or another letter goes on: the queries stay
   module _ (same : D.clp.queries ≡ qs c) where
     all_same : (d : ℕ) → qs' d ≡ qs d
     all_same d = elim (cases_eq d c) [
@@ -491,7 +491,7 @@ module _ (p : Plan) (q : State) (w : World) (recs : ℕ → Parts) (sim : Sim p 
       no_end nr to (message.Move v a y) h f = f
       no_end nr to (message.Grow a b y v) h f = f
 
-      -- each message.Give that is sent is of n
+      -- each Give that is sent is of n
       calm_give : (to : Process) (g : GiveRow) (y : Sent) → In y D.sent → y.message ≡ message.Give g → g.num ≡ n
       calm_give to g y h f = (let a = (good p q w recs sim linked s os (Range n i u) calm c lc from t e).1.0 y h in
           (subst (MailAt p s (is_over os) (Range n i u) (process p y.to) (AtClp c)) f a).1)
@@ -517,7 +517,7 @@ module _ (p : Plan) (q : State) (w : World) (recs : ℕ → Parts) (sim : Sim p 
           → message.Ask k' z' q' ≡ message.Finish a b → ⊥
       ask_finish k' z' q' a b f = cc
 
-  -- a message.Finish comes
+  -- a Finish comes
   finish_order : (k : Num) (z : Stamp) → t.message ≡ message.Finish k z → InOrder p n qs' W.links
   finish_order k z em = by from refl (sim.fits (mail_to (AtClp c) from (message.Finish k z)) i0).1
     where
@@ -567,7 +567,7 @@ module _ (p : Plan) (q : State) (w : World) (recs : ℕ → Parts) (sim : Sim p 
             (was none (AtClp d) y (message.Ask k' z' q') j)));
       }
 
-      -- the message.Ask of the open query to a CLP that has it registered
+      -- the Ask of the open query to a CLP that has it registered
       asked_twice : (k' : Num) (z' : Stamp) (q' : Query) (d y : ℕ) → d < N → (r : Registered) → In r (qs d) → r.num ≡ n
           → In (mail_to (AtClp d) (AtClp y) (message.Ask k' z' q')) (mail w.links) → ⊥
       asked_twice k' z' (query.One v) d y ld r ir er j = (let a = calm.letters _ j in a.1)

@@ -448,7 +448,7 @@ module _ (p : Plan) (w : World) (r : Kept p w) (s : Stamp) (os : List Over) (ph 
           by (message.Move v z y) f h = absurd h
           by (message.Grow k z u y) f h = absurd h
 
-      -- a message.Give that is taken names an incomplete sense
+      -- a Give that is taken names an incomplete sense
       pub give_opens : (g : GiveRow) → x.message ≡ message.Give g → (y : Spot)
           × (find g.num (get_or w.agents a no_agent).steps ≡ Some y) × (y.sense.complete ≡ false)
       give_opens g f = give_found p q w recs sim r.awake.linked s os ph calm a la x.from t e (ap stamp_of em ∙ stamp_x)

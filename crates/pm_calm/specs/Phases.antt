@@ -43,6 +43,7 @@ pub record RecAt (p : Plan) (s : Stamp) (over : Num → ℕ → Window → Type 
   pub solid : IsSettled r
   pub silent : (k : Num) (j : ℕ) (u : Window) → over k j u → class_at p v ≡ j → Silent k u r
 
+-- an Ask on its way: of the open query, or of a class query that is over and comes from a communication process
 abbrev pub AskAt : Phase → (Num → ℕ → Window → Type 0) → Process → Num → Query → Type 0
 AskAt Idle over from k (query.One v) = ⊥
 AskAt Idle over from k (query.Class j u) = over k j u × IsClp from
@@ -51,11 +52,13 @@ AskAt (Single n x) over from k (query.Class j u) = over k j u × IsClp from
 AskAt (Range n i w) over from k (query.One v) = ⊥
 AskAt (Range n i w) over from k (query.Class j u) = (k ≡ n) × (j ≡ i) × (u ≡ w)
 
+-- a Give on its way is for the open query
 abbrev pub GiveAt : Phase → GiveRow → Type 0
 GiveAt Idle g = ⊥
 GiveAt (Single n x) g = g.num ≡ n
 GiveAt (Range n i w) g = g.num ≡ n
 
+-- a Finish on its way: of the open class query, or to a communication process
 abbrev pub FinishAt : Phase → Process → Num → Type 0
 FinishAt Idle to k = IsClp to
 FinishAt (Single n x) to k = IsClp to
@@ -67,6 +70,7 @@ WriteAt Idle = Unit {0}
 WriteAt (Single n x) = ⊥
 WriteAt (Range n i w) = ⊥
 
+-- a Move is on its way only where no class query is open
 abbrev pub MoveAt : Phase → Type 0
 MoveAt Idle = Unit {0}
 MoveAt (Single n x) = Unit {0}
@@ -87,6 +91,7 @@ MailAt p s over ph to from (message.Grow k z u w) = (z ≡ s) × WriteAt ph
 abbrev pub EndsAt : Plan → Registered → Type 0
 EndsAt p r = (a : ℕ) → process p r.from ≡ AtAgent a → r.waits ≡ []
 
+-- a registered query that is over
 abbrev pub OverAt : Plan → (Num → ℕ → Window → Type 0) → Registered → Type 0
 OverAt p over r = over r.num r.class r.window × EndsAt p r
 
@@ -96,6 +101,7 @@ RegAt p over Idle r = OverAt p over r
 RegAt p over (Single n x) r = OverAt p over r
 RegAt p over (Range n i w) r = OverAt p over r ⊎ ((r.num ≡ n) × (r.class ≡ i) × (r.window ≡ w))
 
+-- a communication process: its records, and its registered queries, all of that moment
 pub record ClpAt (p : Plan) (s : Stamp) (over : Num → ℕ → Window → Type 0) (ph : Phase) (c : ClpState) : Type 0 where
   pub records : (v : ℕ) (r : Parts) → rec_at c.records v ≡ Some r → RecAt p s over v r
   pub stamps : (r : Registered) → In r c.queries → r.stamp ≡ s
@@ -122,14 +128,17 @@ pub record Over : Type 0 where
   pub class : ℕ
   pub window : Window
 
+-- the class query is one of these
 abbrev pub is_over : List Over → Num → ℕ → Window → Type 0
 is_over os k j u = In (record { num = k; class = j; window = u }) os
 
+-- the sense of the open query
 abbrev pub OpenSense : Phase → KeptSense → Type 0
 OpenSense Idle x = ⊥
 OpenSense (Single n v) x = (x.num ≡ n) × (x.complete ≡ false) × (x.query ≡ query.One v)
 OpenSense (Range n i w) x = (x.num ≡ n) × (x.complete ≡ false) × (x.query ≡ query.Class i w)
 
+-- the number isn't the open query's
 abbrev pub NotOpen : Phase → Num → Type 0
 NotOpen Idle k = Unit {0}
 NotOpen (Single n v) k = k ≡ n → ⊥
@@ -139,6 +148,7 @@ NotOpen (Range n i w) k = k ≡ n → ⊥
 abbrev pub SenseAt : Phase → KeptSense → Type 0
 SenseAt ph x = ((x.complete ≡ true) × NotOpen ph x.num) ⊎ OpenSense ph x
 
+-- an agent's kept steps are of that moment
 pub record AgentAt (s : Stamp) (ph : Phase) (a : Agent) : Type 0 where
   pub steps : (t : KeptStep) → In t a.steps → t.stamp ≡ s
   pub senses : (t : KeptStep) (x : KeptSense) → In t a.steps → In x t.senses → SenseAt ph x
@@ -148,6 +158,7 @@ abbrev pub HasSense : World → Num → Type 0
 HasSense w n = (n.agent < length w.agents) × (t : KeptStep) × (x : KeptSense)
     × In t (get_or w.agents n.agent no_agent).steps × In x t.senses × (x.num ≡ n)
 
+-- the open query's sense is there
 abbrev pub OpenIn : Phase → World → Type 0
 OpenIn Idle w = Unit {0}
 OpenIn (Single n v) w = HasSense w n
@@ -165,7 +176,7 @@ pub record Calm (p : Plan) (w : World) (s : Stamp) (os : List Over) (ph : Phase)
   pub own : (i : ℕ) → i < length w.agents → between (AtAgent i) (AtAgent i) w.links ≡ wake_of
       (get_or w.agents i no_agent).awaited
 
--- the order of answers: behind a CLP's Finish of the open class query comes no Give of it and no other Finish
+-- the message is a Finish
 abbrev pub IsFinish : Message → Type 0
 IsFinish (message.Finish k z) = Unit {0}
 IsFinish (message.Wake k z) = ⊥
@@ -176,6 +187,7 @@ IsFinish (message.Give g) = ⊥
 IsFinish (message.Move v z r) = ⊥
 IsFinish (message.Grow k z u w) = ⊥
 
+-- the message is a Finish or a Give
 abbrev pub IsAnswer : Message → Type 0
 IsAnswer (message.Finish k z) = Unit {0}
 IsAnswer (message.Give g) = Unit {0}
@@ -186,17 +198,20 @@ IsAnswer (message.Cut r_n r_t v) = ⊥
 IsAnswer (message.Move v z r) = ⊥
 IsAnswer (message.Grow k z u w) = ⊥
 
+-- behind a Finish comes no Finish and no Give
 abbrev pub Tidy : List Message → Type 0
 Tidy [] = Unit {0}
 Tidy (m ∷ ms) = (IsFinish m → (x : Message) → In x ms → IsAnswer x → ⊥) × Tidy ms
 
--- CLP d has n registered and waits for e; or for nobody
+-- communication process d has the query n registered and waits for e
 abbrev pub Waiting : Num → (ℕ → List Registered) → ℕ → ℕ → Type 0
 Waiting n qs d e = (r : Registered) × In r (qs d) × (r.num ≡ n) × In e r.waits
 
+-- it waits for nobody
 abbrev pub Ended : Num → (ℕ → List Registered) → ℕ → Type 0
 Ended n qs d = (r : Registered) × In r (qs d) × (r.num ≡ n) × (r.waits ≡ [])
 
+-- the order of the open class query's answers: what comes from a process that has ended it comes before its Finish
 pub record InOrder (p : Plan) (n : Num) (qs : ℕ → List Registered) (ls : List Link) : Type 0 where
   pub tidy : (to : Process) (e : ℕ) → Tidy (between to (AtClp e) ls)
   pub gives : (d e : ℕ) (g : GiveRow) → In (message.Give g) (between (AtClp d) (AtClp e) ls) → Waiting n qs d e
@@ -207,6 +222,7 @@ pub record InOrder (p : Plan) (n : Num) (qs : ℕ → List Registered) (ls : Lis
   pub asks : (d c : ℕ) (k : Num) (z : Stamp) (q : Query) → In (message.Ask k z q) (between (AtClp d) (AtClp c) ls)
       → Waiting n qs c d
 
+-- so it is where a class query is open
 abbrev pub OrderIn : Phase → Plan → World → Type 0
 OrderIn Idle p w = Unit {0}
 OrderIn (Single n v) p w = Unit {0}
