@@ -1,0 +1,4 @@
+pub mod Lowest
+pub mod Calm
+pub mod Phases
+pub mod Samples
