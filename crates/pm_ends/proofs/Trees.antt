@@ -1,17 +1,22 @@
 -- The tree over the places of the in-ends.
 use Rattle.std.proofs.Common.{ℕ, zero, suc, ◌≡◌, ◌<◌, ◌≤◌, ◌≢◌, ◌+◌, ◌-◌, ◌*◌, ◌/◌, ◌⊎◌, inl, inr, Bool, true, false}
 use Rattle.std.proofs.Common.{List, [], ◌∷◌, ◌++◌, length, get_or, set, map, refl, sym, ap, ap₂, ◌∙◌, subst, arith, cond}
-use Rattle.std.proofs.Common.{Option, Some, None, MatchOption, get_or-set_other, get_or-set_same, length-set}
+use Rattle.std.proofs.Common.{Option, Some, None, MatchOption, get_or-set_other, get_or-set_same, length-set, length-map, length-append}
 use Rattle.std.specs.Prelude.{nat_lt, nat_le}
 use Rattle.std.proofs.lemmas.Bool.{false≢true}
 use Rattle.std.proofs.lemmas.Bool.Decides.{nat_tests}
 use Rattle.pm_base.specs.Stamps.{stamp_lt}
 use Rattle.pm_base.specs.declared.stamp.Stamp.{Stamp}
-use Rattle.pm_ends.specs.Ends.{Inn}
+use Rattle.pm_ends.specs.Ends.{Inn, first_at, first_of, post_stamp}
 use Rattle.pm_ends.specs.Numbers.{nth}
 use Rattle.pm_ends.specs.Trees.{IsLaid, IsMended, IsSoonest, IsTree, IsTreeBut, IsTreeTo, StandsUnder, better, leads}
 use Rattle.pm_ends.specs.Trees.{leads_at, moment_at, sooner, up, ups, winner}
-use Rattle.pm_ends.proofs.Lists.{some_same}
+use Rattle.std.specs.Prelude.{option_map}
+use Rattle.std.proofs.lemmas.List.{map-set}
+use Rattle.pm_links.specs.Links.{waiting}
+use Rattle.pm_ends.specs.Sides.{inn_of}
+use Rattle.pm_ends.specs.declared.in_ends.InSide.{InSide}
+use Rattle.pm_ends.proofs.Lists.{nth_else, nth_map, nth_set}
 use Rattle.pm_ends.proofs.Laws.{same_or}
 
 -- the order of items
@@ -290,3 +295,108 @@ module _ (xs : List Inn) (best : List ℕ) (tree : IsTree xs best) where
 
   pub none_soonest : moment_at xs top ≡ None → (k : ℕ) → moment_at xs k ≡ None
   none_soonest e k = nothing (moment_at xs k) k refl e
+
+-- an end was written
+pub tree_set : (xs : List Inn) (best : List ℕ) (i : ℕ) (y : Inn) → IsTree xs best → IsTreeBut (set xs i y) best i
+tree_set xs best i y tree = tree_but xs (set xs i y) best i
+    (λ j ne. ap (λ (o : Option Inn). option_map post_stamp (first_at o)) (nth_else xs i j y ne)) tree
+    (length-set xs i y)
+
+pub held_but : (xs : List InSide) (best : List ℕ) (i : ℕ) (y : InSide) → IsTree (map inn_of xs) best
+    → IsTreeBut (map inn_of (set xs i y)) best i
+held_but xs best i y tree = subst (λ (l : List Inn). IsTreeBut l best i) (sym (map-set inn_of xs i y))
+    (tree_set (map inn_of xs) best i (inn_of y) tree)
+
+-- an end was written whose first item is the same
+tree_same : (xs ys : List Inn) (best : List ℕ) → ((j : ℕ) → moment_at ys j ≡ moment_at xs j) → length ys ≡ length xs
+    → IsTree xs best → IsTree ys best
+tree_same xs ys best same long tree = record {
+  laid = record { long = tree.laid.long ∙ sym long; under = tree.laid.under };
+  mended = λ k lt. record {
+    own = ap₂ (λ (s t : Option Stamp). leads s (get_or best k 0) t k) (same (get_or best k 0)) (same k)
+        ∙ (tree.mended k lt).own;
+    below = λ c low e. ap₂ (λ (s t : Option Stamp). leads s (get_or best k 0) t (get_or best c 0))
+        (same (get_or best k 0)) (same (get_or best c 0)) ∙ (tree.mended k lt).below c low e;
+  };
+}
+
+pub held_tree : (xs : List InSide) (best : List ℕ) (i : ℕ) (d y : InSide) → d ≡ get_or xs i d → i < length xs
+    → first_of (waiting y.end) ≡ first_of (waiting d.end) → IsTree (map inn_of xs) best
+    → IsTree (map inn_of (set xs i y)) best
+held_tree xs best i d y here lt first tree =
+    let now : List Inn = map inn_of xs in
+    let was : nth now i ≡ Some (inn_of d) = nth_map inn_of xs i d lt ∙ ap (λ (z : InSide). Some (inn_of z)) (sym here) in
+    let is : nth (set now i (inn_of y)) i ≡ Some (inn_of y) = nth_set now i (inn_of y) (omega (arith, lt, length-map xs inn_of)) in
+    subst (λ (l : List Inn). IsTree l best) (sym (map-set inn_of xs i y))
+    (tree_same now (set now i (inn_of y)) best (λ j. elim (same_or j i) [
+      | inl e ↦ ap (moment_at (set now i (inn_of y))) e.0 ∙ ap (λ (o : Option Inn). option_map post_stamp (first_at o)) is
+          ∙ ap (option_map post_stamp) first ∙ ap (λ (o : Option Inn). option_map post_stamp (first_at o)) (sym was)
+          ∙ ap (moment_at now) (sym e.0)
+      | inr ne ↦ ap (λ (o : Option Inn). option_map post_stamp (first_at o)) (nth_else now i j (inn_of y) ne.0)
+    ]) (length-set now i (inn_of y)) tree)
+
+-- one end more
+nth_more : (xs : List Inn) (x : Inn) (j : ℕ) → j ≢ length xs → nth (xs ++ x ∷ []) j ≡ nth xs j
+nth_more [] x zero ne = absurd (ne refl)
+nth_more [] x (suc j) ne = refl
+nth_more (y ∷ xs) x zero ne = refl
+nth_more (y ∷ xs) x (suc j) ne = nth_more xs x j (λ e. ne (omega (arith, e)))
+
+get_more : (ks : List ℕ) (n k : ℕ) → k < length ks → get_or (ks ++ n ∷ []) k 0 ≡ get_or ks k 0
+get_more [] n k lt = absurd (omega (arith, lt))
+get_more (m ∷ ks) n zero lt = refl
+get_more (m ∷ ks) n (suc k) lt = get_more ks n k (omega (arith, lt))
+
+get_last : (ks : List ℕ) (n : ℕ) → get_or (ks ++ n ∷ []) (length ks) 0 ≡ n
+get_last [] n = refl
+get_last (m ∷ ks) n = get_last ks n
+
+module _ (xs : List Inn) (best : List ℕ) (x : Inn) (n : ℕ) (is : n ≡ length xs) (tree : IsTree xs best) where
+  abbrev more : List ℕ
+  more = best ++ n ∷ []
+
+  long_more : length more ≡ length best + 1
+  long_more = length-append best (n ∷ [])
+
+  ends_more : length (xs ++ x ∷ []) ≡ length xs + 1
+  ends_more = length-append xs (x ∷ [])
+
+  low : (k : ℕ) → k < length more → k ≢ n → k < length best
+  low k lt ne = omega (arith, lt, ne, is, tree.laid.long, long_more)
+
+  kept : (k : ℕ) → k < length more → k ≢ n → get_or more k 0 ≡ get_or best k 0
+  kept k lt ne = get_more best n k (low k lt ne)
+
+  last : get_or more n 0 ≡ n
+  last = ap (λ (z : ℕ). get_or more z 0) (is ∙ sym tree.laid.long) ∙ get_last best n
+
+  same_more : (j : ℕ) → j ≢ n → moment_at (xs ++ x ∷ []) j ≡ moment_at xs j
+  same_more j ne = ap (λ (o : Option Inn). option_map post_stamp (first_at o)) (nth_more xs x j (λ e. ne (e ∙ sym is)))
+
+  mended_more : (k : ℕ) → k < length more → (StandsUnder k n → ⊥) → k ≢ n → IsMended (xs ++ x ∷ []) more k
+  mended_more k lt apart ne =
+      let m : IsMended (xs ++ x ∷ []) best k = mended_still xs (xs ++ x ∷ []) best n same_more tree.laid k (low k lt ne)
+      apart (tree.mended k (low k lt ne)) in record {
+        own = subst (λ (z : ℕ). leads_at (xs ++ x ∷ []) z k ≡ true) (sym (kept k lt ne)) m.own;
+        below = λ c high e. elim (same_or c n) [
+          | inl here ↦ absurd (apart (1, ap up (sym here.0) ∙ e))
+          | inr far ↦ subst (λ (z : ℕ). leads_at (xs ++ x ∷ []) z (get_or more c 0) ≡ true) (sym (kept k lt ne))
+              (subst (λ (z : ℕ). leads_at (xs ++ x ∷ []) (get_or best k 0) z ≡ true) (sym (kept c high far.0))
+              (m.below c (low c high far.0) e))
+        ];
+      }
+
+  pub tree_more : IsTreeBut (xs ++ x ∷ []) more n
+  tree_more = record {
+    laid = record {
+      long = long_more ∙ ap (λ (z : ℕ). z + 1) tree.laid.long ∙ sym ends_more;
+      under = λ k lt. elim (same_or k n) [
+        | inl here ↦ (0, ap (λ (z : ℕ). get_or more z 0) here.0 ∙ last ∙ sym here.0)
+        | inr far ↦ subst (StandsUnder k) (sym (kept k lt far.0)) (tree.laid.under k (low k lt far.0))
+      ];
+    };
+    mended = λ k lt. elim (under_or n k n (omega arith)) [
+      | inl u ↦ inr u
+      | inr apart ↦ inl (mended_more k lt apart (λ e. apart (0, sym e)))
+    ];
+  }

@@ -13,7 +13,7 @@ ghost use Rattle.pm_ends.specs.Sides.{HandedAt, inn_of};
 ghost use Rattle.pm_ends.specs.Trees.{IsSoonest, moment_at};
 
 use crate::post::Post;
-use crate::tree::{mend, moment};
+use crate::tree::{mend, moment, top};
 use pm_base::{Line, Memory};
 use pm_links::InEnd;
 use std::alloc::Global;
@@ -130,9 +130,11 @@ impl InEnds {
     pub fn soonest(&self) -> Option<usize>
         ensures { MatchOption result ((i : ℕ) → moment_at self.now i ≡ None) (IsSoonest self.now) }
     {
-        let first = *self.best.get(0)?;
-        moment(self.ends.as_slice(), first)?;
-        Some(first)
+        let first = top(self.best.as_slice());
+        match moment(self.ends.as_slice(), first) {
+            Some(_) => Some(first),
+            None => None,
+        }
     }
 
     /// The first item that waits at the end at that place, lent. It takes no memory.

@@ -1,7 +1,7 @@
 //! Which of the in-ends has the first item: a tree over their places, in which below place k stand places 2k + 1 and
 //! 2k + 2. At each place it keeps the number of an end that stands there or below, whose first item comes no later than
 //! those of all the others there. Where one end's first item changes, the places above it alone are looked at again.
-ghost use Rattle.std.specs.Prelude.{◌≡◌, ◌+◌, ◌*◌, ◌<◌, length, map};
+ghost use Rattle.std.specs.Prelude.{◌≡◌, ◌+◌, ◌*◌, ◌<◌, get_or, length, map};
 ghost use Rattle.pm_ends.specs.Sides.{inn_of};
 ghost use Rattle.pm_ends.specs.Trees.{IsTree, IsTreeBut, IsTreeTo, better, leads_at, moment_at, winner};
 
@@ -15,6 +15,16 @@ pub(crate) fn moment(ends: &[InSide], at: usize) -> Option<Stamp>
     match front_at(ends, at) {
         Some(post) => Some(post.message.stamp()),
         None => None,
+    }
+}
+
+// The end that the tree keeps at its top.
+pub(crate) fn top(best: &[usize]) -> usize
+    ensures { result ≡ get_or best.now 0 0 }
+{
+    match best.get(0) {
+        Some(at) => *at,
+        None => 0,
     }
 }
 
