@@ -85,7 +85,7 @@ pub handed_more : (o : Option Post) (d : InSide) (m e : InEnd Post) → in_link 
     → MatchOption o (NothingWaits d.end m) (λ x. Handed x d.end m) → LinkGrew m e
     → MatchOption o (waiting d.end ≡ [])
     (λ x. HandedAt x (inn_of d) (inn_of (record { from = d.from; slot = d.slot; end = e })))
-handed_more None d m e link h g = h.2.0
+handed_more None d m e link h g = h.1
 handed_more (Some x) d m e link h g = record {
   from = refl;
   slot = refl;

@@ -1,7 +1,7 @@
 -- The tree over the places of the in-ends.
 use Rattle.std.proofs.Common.{ℕ, zero, suc, ◌≡◌, ◌<◌, ◌≤◌, ◌≢◌, ◌+◌, ◌-◌, ◌*◌, ◌/◌, ◌⊎◌, inl, inr, Bool, true, false}
 use Rattle.std.proofs.Common.{List, [], ◌∷◌, ◌++◌, length, get_or, set, map, refl, sym, ap, ap₂, ◌∙◌, subst, arith, cond}
-use Rattle.std.proofs.Common.{Option, Some, None, MatchOption, get_or-set_other, get_or-set_same, length-set, length-map, length-append}
+use Rattle.std.proofs.Common.{Option, Some, None, MatchOption, get_or-set_other, get_or-set_same, length-set, length-append}
 use Rattle.std.specs.Prelude.{nat_lt, nat_le}
 use Rattle.std.proofs.lemmas.Bool.{false≢true}
 use Rattle.std.proofs.lemmas.Bool.Decides.{nat_tests}
@@ -12,7 +12,7 @@ use Rattle.pm_ends.specs.Numbers.{nth}
 use Rattle.pm_ends.specs.Trees.{IsLaid, IsMended, IsSoonest, IsTree, IsTreeBut, IsTreeTo, StandsUnder, better, leads}
 use Rattle.pm_ends.specs.Trees.{leads_at, moment_at, sooner, up, ups, winner}
 use Rattle.std.specs.Prelude.{option_map}
-use Rattle.std.proofs.lemmas.List.{map-set}
+use Rattle.std.proofs.lemmas.List.{length-map, map-set}
 use Rattle.pm_links.specs.Links.{waiting}
 use Rattle.pm_ends.specs.Sides.{inn_of}
 use Rattle.pm_ends.specs.declared.in_ends.InSide.{InSide}

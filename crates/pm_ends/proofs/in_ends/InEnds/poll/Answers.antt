@@ -16,7 +16,7 @@ invariant_of-self-then-not-look c = (
       c.in-Some.ensures.value c.self.invariant.0 c.look.ensures.grew.from,
   held_tree c.self.inside.ends.items c.self.inside.best.items c.args.at c.in-Some.side.now c.look.new.side
       c.in-Some.ensures.value (omega (arith, c.in-Some.ensures.variant.0 refl, c.self.inside.ends.ok.0))
-      (c.look.ensures.same ?) c.self.invariant.1,
+      (c.look.ensures.same c.if-not-look.true) c.self.invariant.1,
 )
 
 pub returns-then-not-look : goal.returns-then-not-look
