@@ -1,4 +1,4 @@
-use Rattle.std.proofs.Common.{◌≡◌, ◌<◌, length, map}
+use Rattle.std.proofs.Common.{◌<◌, length, map}
 use Rattle.pm_ends.specs.Sides.{inn_of}
 use Rattle.pm_ends.specs.Trees.{IsTreeTo}
 use Rattle.pm_ends.proofs.tree.mend.Given as goal

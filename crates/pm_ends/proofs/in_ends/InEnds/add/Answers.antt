@@ -14,8 +14,7 @@ pub invariant_of-self-2 : goal.invariant_of-self-2
 invariant_of-self-2 c =
     let xs = c.self.inside.ends.items in
     let all = ap (λ l. froms (map inn_of l)) c.in_ok-push.ensures.items
-    ∙ (ap froms (map-append inn_of xs (_ ∷ [])) ∙ map-append (λ x. x.from) (map inn_of xs) (_ ∷ [])) in
-    (
+    ∙ (ap froms (map-append inn_of xs (_ ∷ [])) ∙ map-append (λ x. x.from) (map inn_of xs) (_ ∷ [])) in (
       subst AreRising (sym all) (rising_append (froms (map inn_of xs)) c.args.from c.self.invariant.0
           (subst (λ l. AllByRecursion (λ k. k < c.args.from) (froms l)) (sym c.self.view_is) c.requires.above)),
       subst (λ l. IsTree (map inn_of l) c.mend.new.best.items) c.as_slice.ensures.value c.mend.ensures,

@@ -1,4 +1,4 @@
-use Rattle.std.proofs.Common.{◌<◌, arith, length, map, refl, subst, sym}
+use Rattle.std.proofs.Common.{arith, map, refl, subst, sym}
 use Rattle.pm_ends.specs.Ends.{AllGrew}
 use Rattle.pm_ends.specs.Sides.{inn_of}
 use Rattle.pm_ends.specs.Trees.{IsTree, IsTreeBut}

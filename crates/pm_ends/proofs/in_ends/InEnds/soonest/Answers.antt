@@ -1,4 +1,4 @@
-use Rattle.std.proofs.Common.{◌≡◌, ◌∙◌, ap, get_or, map, subst, sym, List}
+use Rattle.std.proofs.Common.{◌∙◌, ap, get_or, map, subst, sym}
 use Rattle.pm_ends.specs.Sides.{inn_of}
 use Rattle.pm_ends.specs.Trees.{IsSoonest, moment_at}
 use Rattle.pm_ends.proofs.Trees.{is_soonest, none_soonest}
