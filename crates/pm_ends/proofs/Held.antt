@@ -12,14 +12,16 @@ use Rattle.pm_base.specs.Stamps.{least_line_of, or_lower}
 use Rattle.pm_base.proofs.Orders.{least_line_of-snoc}
 use Rattle.std.proofs.lemmas.Bool.Decides.{nat_tests}
 use mathlib.Core.List.{IsPrefix}
-use Rattle.pm_links.specs.Links.{out_link, sent, waiting}
+use Rattle.pm_links.specs.Links.{Handed, NothingWaits, in_link, out_link, sent, waiting}
+use Rattle.pm_links.specs.Links.{Grew as LinkGrew}
+use Rattle.pm_links.specs.declared.in_end.InEnd.{InEnd}
 use Rattle.pm_ends.specs.declared.post.Post.{Post}
 use Rattle.pm_ends.specs.declared.in_ends.InSide.{InSide}
 use Rattle.pm_ends.specs.declared.out_ends.OutSide.{OutSide}
 use Rattle.pm_ends.specs.Numbers.{AreRising, Begins, nth}
 use Rattle.pm_ends.specs.Ends.{AllGrew, Grew, Inn, Out, Took, first_at, first_of, froms, post_stamp, sent_to, tos}
 use Rattle.pm_ends.specs.Sides.{HandedAt, IsPlaceOf, inn_of, out_of}
-use Rattle.pm_ends.proofs.Lists.{any_same, get_map, nth_map}
+use Rattle.pm_ends.proofs.Lists.{any_same, begins_on, get_map, nth_map}
 use Rattle.pm_ends.proofs.Laws.{grew_set, same_or}
 
 -- what is there at a call goes on as what is there after it
@@ -77,6 +79,22 @@ pub handed_from : (o : Option Post) (a b : Inn) (W : Type 0) → MatchOption o W
     → (o ≡ None → Grew a b) → b.from ≡ a.from
 handed_from None a b W h g = (g refl).from
 handed_from (Some x) a b W h g = h.from
+
+-- an end that handed out an item, and to which more may have come
+pub handed_more : (o : Option Post) (d : InSide) (m e : InEnd Post) → in_link m ≡ in_link d.end
+    → MatchOption o (NothingWaits d.end m) (λ x. Handed x d.end m) → LinkGrew m e
+    → MatchOption o (waiting d.end ≡ [])
+    (λ x. HandedAt x (inn_of d) (inn_of (record { from = d.from; slot = d.slot; end = e })))
+handed_more None d m e link h g = h.1
+handed_more (Some x) d m e link h g = record {
+  from = refl;
+  slot = refl;
+  link = g.0 ∙ link;
+  received = g.1 ∙ h.0;
+  first = begins_on (waiting d.end) (x ∷ waiting m) (x ∷ waiting e)
+      (begins_prefix (waiting d.end) (x ∷ waiting m) h.1)
+      (g.2.0, ap (λ (l : List Post). x ∷ l) (sym g.2.1));
+}
 
 -- the tests of numbers
 lt_true : (a b : ℕ) → nat_lt a b ≡ true → a < b

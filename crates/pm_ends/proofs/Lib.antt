@@ -1,4 +1,5 @@
 pub mod Lists
 pub mod Laws
 mod Held
+mod Trees
 mod Wirings

@@ -1,4 +1,5 @@
 pub mod Numbers
 pub mod Ends
 pub mod Sides
+pub mod Trees
 pub mod Wires

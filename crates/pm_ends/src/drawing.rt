@@ -6,6 +6,7 @@ ghost use Rattle.pm_ends.specs.Wires.{IsDrawn, IsWiredAt};
 
 use crate::in_ends::InEnds;
 use crate::out_ends::OutEnds;
+use crate::tree::mend;
 use pm_base::Memory;
 
 /// Brings all that was sent over the link of the in-end at that place to that end, where it waits; the out-end is at
@@ -19,5 +20,7 @@ pub fn draw(outs: &mut OutEnds, inns: &mut InEnds, at: usize) -> Result<(), Memo
 {
     let inn = &mut inns.ends[at];
     let out = &mut outs.ends[inn.slot as usize];
-    pm_links::draw(&mut out.end, &mut inn.end)
+    let drawn = pm_links::draw(&mut out.end, &mut inn.end);
+    mend(inns.ends.as_slice(), &mut inns.best, at);
+    drawn
 }

@@ -8,6 +8,7 @@ mod out_ends;
 mod post;
 #[cfg(test)]
 mod tests;
+mod tree;
 mod wiring;
 
 pub use drawing::draw;

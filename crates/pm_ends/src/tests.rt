@@ -46,3 +46,23 @@ fn the_least_moment_is_of_all_ends(rt: HostRuntime) -> Result<(), Fail> {
     assert!(rt; first == Some(5) && outs[1].len() == 1);
     Ok(())
 }
+
+#[test]
+fn the_soonest_end_is_that_of_the_least_moment(rt: HostRuntime) -> Result<(), Fail> {
+    let links = [(3, 0), (3, 1), (3, 2)];
+    let (mut inns, mut outs) = wires(rt.alloc(), &links, 4).expect(&rt, "memory");
+    outs[0].send(3, post(5)).expect(&rt, "memory");
+    outs[1].send(3, post(3)).expect(&rt, "memory");
+    outs[2].send(3, post(3)).expect(&rt, "memory");
+    let unseen = inns[3].soonest();
+    inns[3].poll_next();
+    let seen = inns[3].soonest();
+    inns[3].poll_next();
+    inns[3].poll_next();
+    let least = inns[3].soonest();
+    let item = inns[3].take(1).map(|x| x.clock);
+    let next = inns[3].soonest();
+    assert!(rt; unseen.is_none() && seen == Some(0) && least == Some(1));
+    assert!(rt; item == Some(3) && next == Some(2));
+    Ok(())
+}
