@@ -1,5 +1,5 @@
 // An agent's process.
-ghost use Rattle.std.specs.Prelude.{◌≡◌, ◌<◌, ◌^◌, ◌++◌, true, None, is_err, length, map, OnOk, IfOk};
+ghost use Rattle.std.specs.Prelude.{◌≡◌, ◌<◌, ◌^◌, ◌++◌, ◌+◌, false, true, None, is_err, length, map, OnOk, IfOk};
 ghost use Rattle.std.specs.Option.{option_map, option_to_list};
 ghost use Rattle.pm_base.specs.Layouts.{IsLayout};
 ghost use Rattle.pm_base.specs.declared.program.RegRow.{RegRow as TheRegister};
