@@ -42,6 +42,12 @@ pub record SameCount (old new : Course) : Type 0 where
   pub all : new.count ≡ old.count
   pub stirred : new.stirred.count ≡ old.stirred.count
 
+-- the world, the journal and how many processes there are stayed as they were
+pub record IsUntouched (old new : Course) : Type 0 where
+  pub world : new.world ≡ old.world
+  pub journal : new.journal ≡ old.journal
+  pub count : SameCount old new
+
 -- the journal of a world: legal events that led to it, with as many deliveries
 pub record Stood (v : WorldView) (j : List Event) : Type 0 where
   pub legal : is_legal_run v.plan (first_world v.plan) j ≡ true

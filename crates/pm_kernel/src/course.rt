@@ -4,11 +4,12 @@ ghost use Rattle.pm_base.specs.declared.run.Event.TheVariants.{Commit as TheComm
 ghost use Rattle.pm_core.specs.Views.{committed};
 ghost use Rattle.pm_core.specs.Picks.{IsHeld};
 ghost use Rattle.pm_sim.specs.Worlds.{clps_of, handed, least_line, may_commit};
-ghost use Rattle.pm_kernel.specs.Courses.{AreHeld, Extends, IsAlone, IsCounted, SameCount, Stood, WentOn, run_of};
+ghost use Rattle.pm_kernel.specs.Courses.{AreHeld, Extends, IsAlone, IsCounted, IsUntouched, SameCount, Stood, WentOn, run_of};
 ghost use Rattle.pm_kernel.specs.Engines.{HasStaged, IsMoved, first_run};
 ghost use Rattle.pm_plan.specs.Plans.{IsValid};
 
 use crate::engine::Stage;
+use crate::resting::Resting;
 use crate::stirred::Stirred;
 use pm_base::{Entry, Event, Line, List, Memory};
 use pm_core::World;
@@ -21,6 +22,7 @@ pub struct Course<'a> {
     pub world: World<'a>,
     pub journal: Vec<Event>,
     pub stirred: Stirred,
+    pub resting: Resting,
     pub count: u32,
 }
 
@@ -37,8 +39,33 @@ impl<'a> Course<'a> {
             world,
             journal: Vec::new(alloc),
             stirred: Stirred::all(alloc, count)?,
+            resting: Resting::none(alloc, plan.clps.len() as u32),
             count,
         })
+    }
+
+    // Nothing is delivered to the process until something is sent to it, or the window lets the moment through for which
+    // it waits.
+    fn rest(&mut self, number: u32) -> Result<(), Memory>
+        ensures { IsUntouched self.old self.new }
+    {
+        self.stirred.clear(number);
+        if let Some(moment) = self.world.moment(number) {
+            self.resting.enter(moment)?;
+        }
+        Ok(())
+    }
+
+    // Agents that wait for a moment which the window lets through may have something.
+    fn rouse(&mut self, window: Option<Line>)
+        ensures { IsUntouched self.old self.new }
+    {
+        for _ in 0..self.resting.count() {
+            let Some(number) = self.resting.leave(window) else {
+                return;
+            };
+            self.stirred.set(number);
+        }
     }
 
     // A delivery to that process, where the window lets one through; how many were made.
@@ -56,7 +83,7 @@ impl<'a> Course<'a> {
         let from = match self.world.pick(number, window) {
             Some(from) => from,
             None => {
-                self.stirred.clear(number);
+                self.rest(number)?;
                 return Ok(0);
             }
         };
@@ -112,33 +139,32 @@ impl<'a> Course<'a> {
         Ok(made)
     }
 
-    // A round, which may be the last one.
-    fn next_round(
-        &mut self,
-        alloc: Global,
-        window: Option<Line>,
-        last: bool,
-        left: u64,
-    ) -> Result<u64, Memory>
-        requires few { self.old.world.made + left ≤ 20000000 }
+    // Rounds over the processes that may have something, until so many deliveries are made or a round makes none.
+    fn rounds(&mut self, alloc: Global, window: Option<Line>, quota: u64) -> Result<u64, Memory>
+        requires few { self.old.world.made + quota ≤ 20000000 }
         requires well { self.old.world.spoilt ≡ false }
         requires all { IsCounted self.old }
         ensures gone { IfOk result (λ n. WentOn window n self.old self.new) }
-        ensures most { IfOk result (λ n. n ≤ left) }
-        ensures idle { last ≡ true → IfOk result (λ n. n ≡ 0 → 0 < left → AreHeld window self.old.count self.new) }
+        ensures most { IfOk result (λ n. n ≤ quota) }
         ensures plan { self.new.world.plan ≡ self.old.world.plan }
         ensures grown { Extends self.old self.new }
         ensures count { SameCount self.old self.new }
     {
-        if last {
-            self.last_round(alloc, window, left)
-        } else {
-            self.round(alloc, window, left)
+        self.rouse(window);
+        let mut made: u64 = 0;
+        while made < quota {
+            let more = self.round(alloc, window, quota - made)?;
+            if more == 0 {
+                return Ok(made);
+            }
+            made += more;
         }
+        Ok(made)
     }
 
     /// Rounds until so many deliveries are made, or none is left that the window lets through. A process that was found
-    /// to have nothing is passed over until something is sent to it, but not in the last round.
+    /// to have nothing is passed over until something is sent to it or the window lets its moment through; only where
+    /// nothing was delivered at all, each is looked at before it is said that none has anything.
     pub fn epoch(&mut self, alloc: Global, window: Option<Line>, quota: u64) -> Result<u64, Memory>
         requires few { self.old.world.made + quota ≤ 20000000 }
         requires well { self.old.world.spoilt ≡ false }
@@ -150,18 +176,11 @@ impl<'a> Course<'a> {
         ensures grown { Extends self.old self.new }
         ensures count { SameCount self.old self.new }
     {
-        self.stirred.stir_all();
-        let mut made: u64 = 0;
-        let mut last = false;
-        while made < quota {
-            let more = self.next_round(alloc, window, last, quota - made)?;
-            if last && more == 0 {
-                return Ok(made);
-            }
-            last = more == 0;
-            made += more;
+        let made = self.rounds(alloc, window, quota)?;
+        if made > 0 {
+            return Ok(made);
         }
-        Ok(made)
+        self.last_round(alloc, window, quota)
     }
 
     // Commits at the least line.

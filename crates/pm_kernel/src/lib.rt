@@ -7,6 +7,7 @@ mod alone;
 mod course;
 mod engine;
 mod ran;
+mod resting;
 mod run;
 mod stage;
 mod stirred;

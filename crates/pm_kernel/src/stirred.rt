@@ -7,8 +7,8 @@ use std::alloc::Global;
 // How many processes a word has a bit for.
 const WORD: usize = 64;
 
-/// For each process, whether something was sent to it, or the window was moved, since it was found to have nothing. It
-/// saves looking: a process that isn't named here is looked at in an epoch's last round all the same.
+/// For each process, whether something was sent to it, or the window let its moment through, since it was found to have
+/// nothing. It saves looking: before an epoch says that no process has anything, each is looked at all the same.
 #[derive(Debug, Drop)]
 pub struct Stirred {
     words: Vec<u64>,
@@ -57,7 +57,7 @@ impl Stirred {
     }
 
     /// The process may have something.
-    fn set(&mut self, number: u32)
+    pub fn set(&mut self, number: u32)
         ensures { self.new.count ≡ self.old.count }
     {
         if let Some(word) = self.words.get_mut(number as usize / WORD) {
@@ -81,12 +81,5 @@ impl Stirred {
         for number in numbers {
             self.set(*number);
         }
-    }
-
-    /// Each process may have something.
-    pub fn stir_all(&mut self)
-        ensures { self.new.count ≡ self.old.count }
-    {
-        self.words.as_mut_slice().fill(u64::MAX);
     }
 }

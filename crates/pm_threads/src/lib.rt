@@ -3,6 +3,7 @@
 #![tactic(auto)]
 
 mod crew;
+mod pace;
 mod running;
 mod stage;
 mod stories;

@@ -35,4 +35,11 @@ impl<'a> World<'a> {
             }),
         )
     }
+
+    /// The moment for which the agent of that process number waits: none where it is in a step or has retired, and of a
+    /// communication process. It is for passing over processes that have nothing to hear; no theorem needs it.
+    pub fn moment(&self, number: u32) -> Option<Stamp> {
+        let agent = (number as usize).checked_sub(self.processes.plan.clps.len())?;
+        self.processes.alps.get(agent)?.next()
+    }
 }

@@ -1,12 +1,11 @@
-use Rattle.std.proofs.Common.{◌+◌, ◌∙◌, arith, refl}
-use Rattle.pm_kernel.proofs.Going.{gone_on, same_count_on}
+use Rattle.std.proofs.Common.{◌≡◌, ◌<◌, subst}
+use Rattle.std.specs.Prelude.{IfOk}
+use Rattle.pm_kernel.specs.Courses.{AreHeld}
 use Rattle.pm_kernel.proofs.course.Course.epoch.Goals as goal
 
-pub loop-made-preserved : goal.loop-made-preserved
-loop-made-preserved c = record {
-  gone = gone_on c.args.self.now c.loop-made.self c.next_round.new.self c.args.window c.loop-made.made c.in_ok-more.more _
-      c.loop-made.invariant.gone c.in_ok-more.ensures.gone refl;
-  most = let a = c.in_ok-more.ensures.most in let b = c.loop-made-test.true in omega (arith, a, b);
-  count = same_count_on c.args.self.now c.loop-made.self c.next_round.new.self c.loop-made.invariant.count
-      c.next_round.ensures.count;
-}
+pub returns-clause-idle : goal.returns-clause-idle
+returns-clause-idle c =
+    let k = c.args.window in
+    let quota = c.args.quota in
+    subst (λ n. IfOk c.last_round.result (λ m. m ≡ 0 → 0 < quota → AreHeld k n c.last_round.new.self))
+    c.rounds.ensures.count.all c.last_round.ensures.idle

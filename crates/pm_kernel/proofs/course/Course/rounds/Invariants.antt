@@ -1,6 +1,6 @@
-use Rattle.std.proofs.Common.{◌≡◌, ◌≤◌, ◌<◌, ◌-◌, ◌+◌, ◌*◌, true, cond}
+use Rattle.std.proofs.Common.{◌≡◌, ◌≤◌, ◌-◌}
 use Rattle.pm_kernel.specs.Courses.{SameCount, WentOn}
-use Rattle.pm_kernel.proofs.course.Course.epoch.Given as goal
+use Rattle.pm_kernel.proofs.course.Course.rounds.Given as goal
 
 abbrev pub invariant-loop-made : goal.invariant-loop-made
 invariant-loop-made l = record {
@@ -9,6 +9,5 @@ invariant-loop-made l = record {
   count : SameCount l.fn.self l.self;
 }
 
--- each round delivers something, or the next one is the last
 abbrev pub decreases-loop-made : goal.decreases-loop-made
-decreases-loop-made l = 2 * (l.quota - l.made) + cond l.last 0 1
+decreases-loop-made l = l.quota - l.made
