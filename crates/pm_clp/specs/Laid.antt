@@ -1,12 +1,13 @@
--- How the records are laid out: a slot for each variable, and two ordered sets that find those that matter.
-use Rattle.std.specs.Prelude.{ℕ, ◌<◌, ◌≤◌, ◌≡◌, ◌^◌, Bool, false, List, [], length, get_or, Option, Some, None}
+-- How the records are laid out: a slot for each variable, and two sets that find those that matter.
+use Rattle.std.specs.Prelude.{ℕ, ◌<◌, ◌≤◌, ◌≡◌, ◌/◌, ◌%◌, ◌^◌, ◌==◌, Bool, false, List, [], length, get_or}
+use Rattle.std.specs.Prelude.{Option, Some, None}
 use Rattle.pm_periods.specs.Records.{Record}
-use Rattle.pm_queries.specs.Queries.{has}
+use Rattle.std.specs.Int.{bit_at}
 use Rattle.pm_clp.specs.Kept.{IsRecordOf}
 
--- the variable is in the set of these
+-- the variable has its bit set in these words of 64 bits
 abbrev pub in_set : List ℕ → ℕ → Bool
-in_set vs v = has v vs
+in_set words v = bit_at (get_or words (v / 64) 0) (v % 64) == 1
 
 -- nothing but a base is kept in the slot
 abbrev pub IsBare : Option Record → Type 0

@@ -17,7 +17,7 @@ use pm_routes::Way;
 use std::alloc::Global;
 use std::marker::Model;
 
-/// The records that are here, by variable: a slot for each variable, and two ordered sets, the variables that are here
+/// The records that are here, by variable: a slot for each variable, and two sets, the variables that are here
 /// and those whose record has rows. Contracts see the parts of the records, and a number that no turn is above.
 #[derive(Debug, Drop)]
 pub struct Records {
