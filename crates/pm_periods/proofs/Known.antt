@@ -24,6 +24,7 @@ use Rattle.pm_periods.specs.declared.rows.RowKey.{RowKey}
 use Rattle.pm_periods.proofs.Hits.{fresh_read-key}
 use Rattle.pm_periods.proofs.Keys.{num_eq-flip, num_eq-same, num_eq-self}
 use Rattle.pm_periods.proofs.Ordered.{has_num_less}
+use Rattle.pm_periods.proofs.Splits.{has_num-append}
 
 -- comparing tells whether two numbers are one
 pub num-is : (a b : Num) → is_at (num_cmp a) b ≡ num_eq b a
@@ -134,6 +135,23 @@ known-refreshed r P C R k = record {
 -- how a look-up grows by a row
 learned : {X : Type 0} (key : X → RowKey) (old new : Look) (x : X) (xs : List X) → has_num key (key x).num xs ≡ false → ((n : Num) → old n ≡ stamp_of key n xs) → Learns old new (key x).num (key x).stamp → (n : Num) → new n ≡ stamp_of key n (add_row key x xs)
 learned key old new x xs e k f n = f n ∙ (ap (cond (num_eq n (key x).num) (Some (key x).stamp)) (k n) ∙ sym (stamp-add key n x xs e))
+
+-- by the key that the code made
+pub learns-at : (old new : Look) (k l : RowKey) → k ≡ l → Learns old new k.num k.stamp → Learns old new l.num l.stamp
+learns-at old new k l e f = subst (λ (z : RowKey). Learns old new z.num z.stamp) e f
+
+-- the same of whether numbers are known, where the row comes last
+pub firsts-known : {X : Type 0} (key : X → RowKey) (x : X) (first next : List X) (old new : Look) → ((n : Num) → is_some (old n) ≡ has_num key n first) → Learns old new (key x).num (key x).stamp → next ≡ first ++ x ∷ []
+    → (n : Num) → is_some (new n) ≡ has_num key n next
+firsts-known key x first next old new k f e n = ap is_some (f n) ∙ (by (num_eq n (key x).num) ∙ (sym (has_num-append key n first (x ∷ [])) ∙ ap (has_num key n) (sym e)))
+  where
+    or_true : (b : Bool) → true ≡ (b || true)
+    or_true true = refl
+    or_true false = refl
+
+    by : (b : Bool) → is_some (cond b (Some (key x).stamp) (old n)) ≡ (has_num key n first || (b || false))
+    by true = or_true (has_num key n first)
+    by false = k n ∙ or_false (has_num key n first)
 
 pub known-put : (p : PutRow) (r : Parts) (P C R P' : Look) → AreKnown r P C R → has_num put_key p.num r.puts ≡ false → Learns P P' p.num p.stamp → AreKnown (after_put p r) P' C R
 known-put p r P C R P' k e f =
