@@ -5,7 +5,8 @@ use Rattle.std.specs.BTreeMap.{get}
 use Rattle.pm_base.specs.declared.rows.Parts.{Parts}
 use Rattle.pm_base.specs.declared.rows.PutRow.{PutRow}
 use Rattle.pm_periods.specs.Known.{AreKnown, num_cmp}
-use Rattle.pm_periods.specs.Laid.{AreLaid, AreOrdered, BeginAtBase, IsNamed, Stand, base_of, cut_of, puts_of, reads_of, withdrawn_of}
+use Rattle.pm_periods.specs.Laid.{AreLaid, AreOrdered, BeginAtBase, IsNamed, Stand, base_of, cut_of, puts_of, reads_of}
+use Rattle.pm_periods.specs.Laid.{withdrawn_of}
 use Rattle.pm_periods.specs.Records.{IsSettled, Record}
 use Rattle.pm_periods.specs.Rows.{AreDistinct, add_rows, cut_key, has_num, put_key}
 use Rattle.pm_periods.specs.declared.held.Held.{Held}

@@ -44,7 +44,7 @@ impl Held {
     }
 
     // Whether its write changes the value before that one does, or it has none.
-    pub fn goes_before(&self, row: &PutRow) -> bool
+    pub(crate) fn goes_before(&self, row: &PutRow) -> bool
         ensures { result ≡ goes_before row.now self.now.put }
     {
         match &self.put {

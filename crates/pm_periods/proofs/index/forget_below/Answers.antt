@@ -1,4 +1,4 @@
-use Rattle.std.proofs.Common.{◌||◌, not, true, false, rules, refl, ap, ◌∙◌, ◌≡◌, Bool}
+use Rattle.std.proofs.Common.{not, false, rules, ap, ◌∙◌}
 use Rattle.std.specs.BTreeMap.{is_at}
 use Rattle.std.specs.Map.{lookup}
 use Rattle.std.proofs.lemmas.Map.Keys.{IsDistinct-from_sorted}
@@ -12,6 +12,8 @@ pub returns : goal.returns
 returns c n =
     let old = c.args.known.now.entries in
     let l = c.args.line in
-    let kept = filter_same_pairs _ (λ e. not (is_below e.1 l)) _ (λ k v b w f' t. search rules) _ _ c.retain.ensures.filtered in
+    let kept = filter_same_pairs _ (λ e. not (is_below e.1 l)) _
+        (λ k v b w f' t. search rules) _ _ c.retain.ensures.filtered in
     ap (lookup (is_at (num_cmp n))) kept
-    ∙ look-kept n l false (λ e. not (is_below e.1 l)) (λ e h. or_false (not (is_below e.1 l))) old (IsDistinct-from_sorted num_cmp _ c.retain.ensures.was_ordered)
+    ∙ look-kept n l false (λ e. not (is_below e.1 l)) (λ e h. or_false (not (is_below e.1 l))) old
+        (IsDistinct-from_sorted num_cmp _ c.retain.ensures.was_ordered)

@@ -1,4 +1,4 @@
-use Rattle.std.proofs.Common.{◌||◌, not, true, false, rules, refl, ap, ◌∙◌, ◌≡◌, Bool}
+use Rattle.std.proofs.Common.{◌||◌, not, rules, ap, ◌∙◌}
 use Rattle.std.specs.BTreeMap.{get, is_at}
 use Rattle.std.specs.Option.{is_some}
 use Rattle.std.specs.Map.{lookup}
@@ -15,6 +15,9 @@ returns c n =
     let old = c.args.cuts.now.entries in
     let l = c.args.line in
     let puts = c.args.puts.now in
-    let kept = filter_same_pairs _ (λ e. not (is_below e.1 l) || is_some (get num_cmp puts e.0)) _ (λ k v b w f' t. search rules) _ _ c.retain.ensures.filtered in
+    let kept = filter_same_pairs _ (λ e. not (is_below e.1 l) || is_some (get num_cmp puts e.0)) _
+        (λ k v b w f' t. search rules) _ _ c.retain.ensures.filtered in
     ap (lookup (is_at (num_cmp n))) kept
-    ∙ look-kept n l (is_some (get num_cmp puts n)) (λ e. not (is_below e.1 l) || is_some (get num_cmp puts e.0)) (λ e h. ap (λ m. not (is_below e.1 l) || is_some (get num_cmp puts m)) (num_eq-same e.0 n h)) old (IsDistinct-from_sorted num_cmp _ c.retain.ensures.was_ordered)
+    ∙ look-kept n l (is_some (get num_cmp puts n)) (λ e. not (is_below e.1 l) || is_some (get num_cmp puts e.0))
+        (λ e h. ap (λ m. not (is_below e.1 l) || is_some (get num_cmp puts m)) (num_eq-same e.0 n h)) old
+        (IsDistinct-from_sorted num_cmp _ c.retain.ensures.was_ordered)
