@@ -142,7 +142,7 @@ row-placed {X = X} key r (x ∷ xs) = by (key_lt (key r) (key x)) (row-placed ke
     by true again = ([], x ∷ xs, refl, refl)
     by false again = (x ∷ again.0, again.1, ap (λ z. x ∷ z) again.2, ap (λ z. x ∷ z) again.3)
 
-withdrawn-none : (n : Num) (ws : List Withdrawal) → AllByRecursion (λ (w : Withdrawal). IsNamed w.cut.num w.put) ws → has_num cut_key n (map cut_of ws) ≡ false → has_num put_key n (withdrawn_of ws) ≡ false
+pub withdrawn-none : (n : Num) (ws : List Withdrawal) → AllByRecursion (λ (w : Withdrawal). IsNamed w.cut.num w.put) ws → has_num cut_key n (map cut_of ws) ≡ false → has_num put_key n (withdrawn_of ws) ≡ false
 withdrawn-none n [] a e = refl
 withdrawn-none n (w ∷ ws) a e = (let o = or_parts (num_eq n w.cut.num) (has_num cut_key n (map cut_of ws)) e in one w.put a.0 o.0 (withdrawn-none n ws a.1 o.1))
   where

@@ -17,3 +17,5 @@ pub mod Settling
 pub mod Spans
 pub mod Ends
 pub mod Helds
+pub mod Known
+pub mod Searches

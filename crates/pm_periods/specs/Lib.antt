@@ -1,5 +1,6 @@
 pub mod HeldPeriods
 pub mod Inner
+pub mod Known
 pub mod Laid
 pub mod Periods
 pub mod Places

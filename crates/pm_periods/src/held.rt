@@ -1,6 +1,7 @@
 // Periods of a record: a write, what is seen after it, and the reads that see it.
 ghost use Rattle.std.specs.Prelude.{◌≡◌, ◌≤◌, ◌<◌, ◌++◌, ◌∷◌, [], ◌^◌, OnOk, take, drop, length, map, true, false};
 ghost use Rattle.std.specs.List.{AllByRecursion};
+ghost use Rattle.pm_periods.specs.Known.{goes_before};
 ghost use Rattle.pm_periods.specs.Laid.{AreLaid, AreLinked, AreOrdered, BeginAtBase, IsBehindPut, IsUpToPut, base_of};
 ghost use Rattle.pm_periods.specs.Laid.{begins_below, changed, is_later, puts_of, reads_of, renewed, renewed_one, told};
 ghost use Rattle.pm_periods.specs.Laid.{value_under};
@@ -39,6 +40,16 @@ impl Held {
         match &self.put {
             Some(put) => is_applied_before(row, put),
             None => false,
+        }
+    }
+
+    // Whether its write changes the value before that one does, or it has none.
+    pub(crate) fn goes_before(&self, row: &PutRow) -> bool
+        ensures { result ≡ goes_before row.now self.now.put }
+    {
+        match &self.put {
+            Some(put) => is_applied_before(put, row),
+            None => true,
         }
     }
 

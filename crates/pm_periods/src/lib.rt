@@ -3,6 +3,7 @@
 #![tactic(auto)]
 
 mod held;
+mod index;
 mod laws;
 mod parts;
 mod periods;

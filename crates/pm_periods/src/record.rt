@@ -1,10 +1,14 @@
 ghost use Rattle.std.specs.Prelude.{◌≡◌, ◌+◌, ◌≤◌, ◌<◌, ◌++◌, ◌∷◌, [], ◌==◌, IfOk, OnOk, OnErr, OnSome, ℕ, suc};
-ghost use Rattle.std.specs.Prelude.{take, drop, length, map, filter, set, true, false, None, Some, if◌then◌else◌};
+ghost use Rattle.std.specs.Prelude.{take, drop, length, map, filter, set, true, false, cond, None, Some, if◌then◌else◌};
 ghost use Rattle.std.specs.Prelude.{slice_index_or, vec_len, min, ◌^◌, ◌-◌};
+ghost use Rattle.std.specs.BTreeMap.{get};
 ghost use Rattle.std.specs.List.{AllByRecursion};
 ghost use Rattle.std.specs.Option.{option_to_list};
 ghost use Rattle.pm_base.specs.Stamps.{is_below, num_eq, stamp_lt};
 ghost use Rattle.pm_periods.specs.HeldPeriods.{held_of};
+ghost use Rattle.pm_base.specs.declared.stamp.Num.{Num as TheNum};
+ghost use Rattle.pm_periods.specs.Known.{num_cmp, stamp_of};
+ghost use Rattle.pm_periods.specs.Places.{number_place};
 ghost use Rattle.pm_periods.specs.Laid.{AreLaid, AreLinked, AreOrdered, Begin, BeginAtBase, End, base_of, cut_of};
 ghost use Rattle.pm_periods.specs.Laid.{is_of, puts_of, reads_of, renewed, told, with_reads, withdrawal};
 ghost use Rattle.pm_periods.specs.Laid.{Entered, Trim, put_kept, trimmed_period, trimmed_withdrawal};
@@ -18,9 +22,13 @@ ghost use Rattle.pm_periods.specs.Rows.{IsInOrder, add_row, put_key, has_num, re
 use crate::held::{
     Held, give, place, reach, refresh, refreshed, renew, tell, tell_reads, value_at_line,
 };
-use crate::rows::{Row, RowKey, add, has, number_place, place as row_place};
-use pm_base::{CutRow, GiveRow, Line, List, Memory, Num, PutRow, ReadRow, Stamp, Value, Window};
+use crate::index::{forget, forget_below, forget_cuts, knows, learn};
+use crate::rows::{Row, RowKey, add, place as row_place};
+use pm_base::{
+    Change, CutRow, GiveRow, Line, List, Memory, Num, PutRow, ReadRow, Stamp, Value, Window,
+};
 use std::alloc::Global;
+use std::collections::BTreeMap;
 use std::marker::Model;
 use std::mem;
 
@@ -31,13 +39,17 @@ pub struct Withdrawal {
     pub put: Option<PutRow>,
 }
 
-/// One variable's record. Contracts see it as the variable's number and the record's `Parts`.
+/// One variable's record. Contracts see it as the variable's number and the record's `Parts`. The numbers of its puts,
+/// cuts and reads are found in ordered maps, which tell at what stamp the row of each stands.
 #[derive(Debug, Drop)]
 pub struct VarRecord {
     pub(crate) var: u32,
     pub(crate) alloc: Global,
     pub(crate) periods: Vec<Held>,
     pub(crate) withdrawals: Vec<Withdrawal>,
+    pub(crate) put_stamps: BTreeMap<Num, Stamp>,
+    pub(crate) cut_stamps: BTreeMap<Num, Stamp>,
+    pub(crate) read_stamps: BTreeMap<Num, Stamp>,
 }
 
 impl Model for VarRecord {
@@ -68,6 +80,9 @@ impl VarRecord {
             alloc,
             periods,
             withdrawals: Vec::new(alloc),
+            put_stamps: BTreeMap::new(alloc),
+            cut_stamps: BTreeMap::new(alloc),
+            read_stamps: BTreeMap::new(alloc),
         })
     }
 
@@ -78,19 +93,22 @@ impl VarRecord {
         ensures gives { IfOk result (λ gives. gives ≡ gives_of_put self.old.var row self.old.parts) }
         ensures err { OnErr result (self.new ≡ self.old) }
     {
-        if has_put(
-            self.periods.as_slice(),
-            self.withdrawals.as_slice(),
-            row.num,
-        ) {
+        if knows(&self.put_stamps, row.num) {
             return Ok(List::new(alloc));
         }
-        let named = number_place(self.withdrawals.as_slice(), row.num);
+        let named = named_place(self.withdrawals.as_slice(), &self.cut_stamps, row.num);
         if named < self.withdrawals.len() {
+            learn(&mut self.put_stamps, row.num, row.stamp)?;
             hold_put(&mut self.withdrawals, named, row);
             return Ok(List::new(alloc));
         }
-        let gives = begin_period(alloc, self.var, &mut self.periods, row)?;
+        let gives = begin_known(
+            alloc,
+            self.var,
+            &mut self.periods,
+            &mut self.put_stamps,
+            row,
+        )?;
         Ok(List::from_vec(gives))
     }
 
@@ -102,21 +120,21 @@ impl VarRecord {
         ensures gives { IfOk result (λ gives. gives ≡ gives_of_cut self.old.var (cut_row num stamp) self.old.parts) }
         ensures err { OnErr result (self.new ≡ self.old) }
     {
-        let named = number_place(self.withdrawals.as_slice(), num);
-        if named < self.withdrawals.len() {
+        if knows(&self.cut_stamps, num) {
             return Ok(List::new(alloc));
         }
         let cut = CutRow { num, stamp };
-        let at = put_place(self.periods.as_slice(), num);
+        let at = put_place(self.periods.as_slice(), &self.put_stamps, num);
         if at >= self.periods.len() {
-            add(&mut self.withdrawals, Withdrawal { cut, put: None })?;
+            add_early(&mut self.withdrawals, &mut self.cut_stamps, cut)?;
             return Ok(List::new(alloc));
         }
-        let gives = end_period(
+        let gives = end_known(
             alloc,
             self.var,
             &mut self.periods,
             &mut self.withdrawals,
+            &mut self.cut_stamps,
             at,
             cut,
         )?;
@@ -138,7 +156,7 @@ impl VarRecord {
         ensures err { OnErr result (self.new ≡ self.old) }
     {
         let _ = alloc;
-        if has_read(self.periods.as_slice(), num) {
+        if knows(&self.read_stamps, num) {
             return Ok(None);
         }
         let value = value_at_line(self.periods.as_slice(), Line::At(stamp));
@@ -152,7 +170,7 @@ impl VarRecord {
                 hit: None,
             },
         );
-        add_read(&mut self.periods, row)?;
+        add_known(&mut self.periods, &mut self.read_stamps, row)?;
         Ok(first_give(self.var, &row))
     }
 
@@ -171,6 +189,9 @@ impl VarRecord {
     {
         trim_periods(self.alloc, &mut self.periods, line);
         trim_withdrawals(&mut self.withdrawals, line);
+        forget_below(&mut self.put_stamps, line);
+        forget_cuts(&mut self.cut_stamps, &self.put_stamps, line);
+        forget_below(&mut self.read_stamps, line);
     }
 
     /// How many puts, cuts and reads are kept, at most `u64::MAX`. It takes no memory.
@@ -189,7 +210,7 @@ impl VarRecord {
         ensures ok { OnOk result (self.new ≡ with_parts self.old (with_read row self.old.parts)) }
         ensures err { OnErr result (self.new ≡ self.old) }
     {
-        add_read(&mut self.periods, row)?;
+        add_known(&mut self.periods, &mut self.read_stamps, row)?;
         Ok(())
     }
 
@@ -253,67 +274,56 @@ fn hold_put(withdrawals: &mut Vec<Withdrawal>, at: usize, row: PutRow)
     withdrawals[at].put = Some(row);
 }
 
-// Whether the period's write has that number.
-fn is_of(h: &Held, num: Num) -> bool
-    ensures { result ≡ is_of num h.now.put }
+// The place of the withdrawal of that number; how many there are where none has it.
+fn named_place(withdrawals: &[Withdrawal], cuts: &BTreeMap<Num, Stamp>, num: Num) -> usize
+    requires order { IsInOrder withdrawal_key withdrawals.now }
+    requires known { get num_cmp cuts.now num ≡ stamp_of withdrawal_key num withdrawals.now }
+    ensures { result ≡ number_place withdrawal_key num withdrawals.now }
 {
-    match &h.put {
-        Some(put) => put.num.agent == num.agent && put.num.seq == num.seq,
-        None => false,
+    match cuts.get(&num) {
+        Some(stamp) => cut_place(withdrawals, RowKey { stamp: *stamp, num }),
+        None => withdrawals.len(),
     }
 }
 
+// The place of the withdrawal that stands at that key.
+fn cut_place(withdrawals: &[Withdrawal], key: RowKey) -> usize
+    requires order { IsInOrder withdrawal_key withdrawals.now }
+    requires there { stamp_of withdrawal_key key.num withdrawals.now ≡ Some key.stamp }
+    ensures { result ≡ number_place withdrawal_key key.num withdrawals.now }
+{
+    withdrawals.partition_point(|w| w.key().is_before(&key))
+}
+
 // The place of the period whose write has that number; how many periods there are where none has it.
-fn put_place(periods: &[Held], num: Num) -> usize
+fn put_place(periods: &[Held], puts: &BTreeMap<Num, Stamp>, num: Num) -> usize
+    requires order { AreOrdered periods.now }
+    requires known { get num_cmp puts.now num ≡ stamp_of put_key num (puts_of periods.now) }
     ensures within { result ≤ length periods.now }
     ensures found { (d : Held) → result < length periods.now →
         is_of num (slice_index_or periods.now result d).put ≡ true }
     ensures others { AllByRecursion (λ (h : Held). is_of num h.put ≡ false) (take result periods.now) }
 {
-    let mut at = 0;
-    while at < periods.len() && !is_of(&periods[at], num) {
-        at += 1;
-    }
-    at
-}
-
-fn is_put_of(w: &Withdrawal, num: Num) -> bool
-    ensures { result ≡ is_of num w.now.put }
-{
-    match &w.put {
-        Some(put) => put.num.agent == num.agent && put.num.seq == num.seq,
-        None => false,
+    match puts.get(&num) {
+        Some(stamp) => begun_place(periods, *stamp, num),
+        None => periods.len(),
     }
 }
 
-fn has_withdrawn(withdrawals: &[Withdrawal], num: Num) -> bool
-    ensures { result ≡ has_num put_key num (withdrawn_of withdrawals.now) }
+// The place of the period whose write has that number and stamp.
+fn begun_place(periods: &[Held], stamp: Stamp, num: Num) -> usize
+    requires order { AreOrdered periods.now }
+    requires there { stamp_of put_key num (puts_of periods.now) ≡ Some stamp }
+    ensures within { result < length periods.now }
+    ensures found { (d : Held) → is_of num (slice_index_or periods.now result d).put ≡ true }
+    ensures others { AllByRecursion (λ (h : Held). is_of num h.put ≡ false) (take result periods.now) }
 {
-    for w in withdrawals {
-        if is_put_of(w, num) {
-            return true;
-        }
-    }
-    false
-}
-
-// Whether a put of that number was received.
-fn has_put(periods: &[Held], withdrawals: &[Withdrawal], num: Num) -> bool
-    ensures { result ≡ has_num put_key num (puts_of periods.now ++ withdrawn_of withdrawals.now) }
-{
-    put_place(periods, num) < periods.len() || has_withdrawn(withdrawals, num)
-}
-
-// Whether a read of that number was received.
-fn has_read(periods: &[Held], num: Num) -> bool
-    ensures { result ≡ has_num read_key num (reads_of periods.now) }
-{
-    for h in periods {
-        if has(h.reads.as_slice(), num) {
-            return true;
-        }
-    }
-    false
+    let row = PutRow {
+        num,
+        stamp,
+        change: Change::Set(Value { x: 0, y: 0 }),
+    };
+    periods.partition_point(|h| h.goes_before(&row))
 }
 
 // How many of the reads don't stand after the stamp.
@@ -458,6 +468,36 @@ fn begin_period(
     Ok(gives)
 }
 
+// Begins a period with that write, whose number is known then. After `Memory` nothing is changed.
+fn begin_known(
+    alloc: Global,
+    var: u32,
+    periods: &mut Vec<Held>,
+    puts: &mut BTreeMap<Num, Stamp>,
+    row: PutRow,
+) -> Result<Vec<GiveRow>, Memory>
+    requires begins { BeginAtBase periods.old.items }
+    requires order { AreOrdered periods.old.items }
+    requires laid { AreLaid (base_of periods.old.items) periods.old.items }
+    requires reads { IsInOrder read_key (reads_of periods.old.items) }
+    requires turns { HaveTurns (reads_of periods.old.items) }
+    requires new { get num_cmp puts.old row.num ≡ None }
+    ensures ok { IfOk result (λ gives. Begin var row periods.old.items periods.new.items gives.items) }
+    ensures known { OnOk result ((n : TheNum) → get num_cmp puts.new n ≡
+        cond (num_eq n row.num) (Some row.stamp) (get num_cmp puts.old n)) }
+    ensures err { OnErr result (periods.new.items ≡ periods.old.items) }
+    ensures unknown { OnErr result ((n : TheNum) → get num_cmp puts.new n ≡ get num_cmp puts.old n) }
+{
+    learn(puts, row.num, row.stamp)?;
+    match begin_period(alloc, var, periods, row) {
+        Ok(gives) => Ok(gives),
+        Err(memory) => {
+            forget(puts, row.num);
+            Err(memory)
+        }
+    }
+}
+
 // The reads of two periods, those of the second with the hit of that value.
 fn joined(
     alloc: Global,
@@ -538,6 +578,66 @@ fn end_period(
     Ok(gives)
 }
 
+// Receives a cut whose put hasn't come. After `Memory` nothing is changed.
+fn add_early(
+    withdrawals: &mut Vec<Withdrawal>,
+    cuts: &mut BTreeMap<Num, Stamp>,
+    cut: CutRow,
+) -> Result<(), Memory>
+    requires order { IsInOrder withdrawal_key withdrawals.old.items }
+    requires new { get num_cmp cuts.old cut.num ≡ None }
+    ensures ok { OnOk result (withdrawals.new.items ≡
+        add_row withdrawal_key (record { cut = cut; put = None }) withdrawals.old.items) }
+    ensures known { OnOk result ((n : TheNum) → get num_cmp cuts.new n ≡
+        cond (num_eq n cut.num) (Some cut.stamp) (get num_cmp cuts.old n)) }
+    ensures err { OnErr result (withdrawals.new.items ≡ withdrawals.old.items) }
+    ensures unknown { OnErr result ((n : TheNum) → get num_cmp cuts.new n ≡ get num_cmp cuts.old n) }
+{
+    learn(cuts, cut.num, cut.stamp)?;
+    match add(withdrawals, Withdrawal { cut, put: None }) {
+        Ok(()) => Ok(()),
+        Err(memory) => {
+            forget(cuts, cut.num);
+            Err(memory)
+        }
+    }
+}
+
+// Ends the period of that place by that cut, whose number is known then. After `Memory` nothing is changed.
+fn end_known(
+    alloc: Global,
+    var: u32,
+    periods: &mut Vec<Held>,
+    withdrawals: &mut Vec<Withdrawal>,
+    cuts: &mut BTreeMap<Num, Stamp>,
+    at: usize,
+    cut: CutRow,
+) -> Result<Vec<GiveRow>, Memory>
+    requires within { (0 < at) × (at < length periods.old.items) }
+    requires named { (d : Held) → is_of cut.num (slice_index_or periods.old.items at d).put ≡ true }
+    requires laid { AreLaid (base_of periods.old.items) periods.old.items }
+    requires turns { HaveTurns (reads_of periods.old.items) }
+    requires cuts { IsInOrder withdrawal_key withdrawals.old.items }
+    requires new { get num_cmp cuts.old cut.num ≡ None }
+    ensures ok { IfOk result (λ gives. (p : PutRow) × (num_eq cut.num p.num ≡ true) ×
+        End var p periods.old.items periods.new.items gives.items ×
+        (withdrawals.new.items ≡ add_row withdrawal_key (withdrawal cut p) withdrawals.old.items)) }
+    ensures known { OnOk result ((n : TheNum) → get num_cmp cuts.new n ≡
+        cond (num_eq n cut.num) (Some cut.stamp) (get num_cmp cuts.old n)) }
+    ensures err { OnErr result ((periods.new.items ≡ periods.old.items) ×
+        (withdrawals.new.items ≡ withdrawals.old.items)) }
+    ensures unknown { OnErr result ((n : TheNum) → get num_cmp cuts.new n ≡ get num_cmp cuts.old n) }
+{
+    learn(cuts, cut.num, cut.stamp)?;
+    match end_period(alloc, var, periods, withdrawals, at, cut) {
+        Ok(gives) => Ok(gives),
+        Err(memory) => {
+            forget(cuts, cut.num);
+            Err(memory)
+        }
+    }
+}
+
 // Puts a read into its period. After `Memory` the periods are unchanged.
 pub fn add_read(periods: &mut Vec<Held>, row: ReadRow) -> Result<(), Memory>
     requires begins { BeginAtBase periods.old.items }
@@ -550,6 +650,32 @@ pub fn add_read(periods: &mut Vec<Held>, row: ReadRow) -> Result<(), Memory>
     let place = row_place(periods[at].reads.as_slice(), row.key());
     periods[at].reads.insert(place, row)?;
     Ok(())
+}
+
+// Puts a read into its period, and its number is known then. After `Memory` nothing is changed.
+fn add_known(
+    periods: &mut Vec<Held>,
+    reads: &mut BTreeMap<Num, Stamp>,
+    row: ReadRow,
+) -> Result<(), Memory>
+    requires begins { BeginAtBase periods.old.items }
+    requires order { AreOrdered periods.old.items }
+    requires reads { IsInOrder read_key (reads_of periods.old.items) }
+    requires new { get num_cmp reads.old row.num ≡ None }
+    ensures ok { OnOk result (Entered row periods.old.items periods.new.items) }
+    ensures known { OnOk result ((n : TheNum) → get num_cmp reads.new n ≡
+        cond (num_eq n row.num) (Some row.stamp) (get num_cmp reads.old n)) }
+    ensures err { OnErr result (periods.new.items ≡ periods.old.items) }
+    ensures unknown { OnErr result ((n : TheNum) → get num_cmp reads.new n ≡ get num_cmp reads.old n) }
+{
+    learn(reads, row.num, row.stamp)?;
+    match add_read(periods, row) {
+        Ok(()) => Ok(()),
+        Err(memory) => {
+            forget(reads, row.num);
+            Err(memory)
+        }
+    }
 }
 
 // The hit that a new read was given, if it was given one.
