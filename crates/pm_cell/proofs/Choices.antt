@@ -8,8 +8,9 @@ use Rattle.std.proofs.lemmas.Option.{slice_get_past}
 use Rattle.pm_base.specs.declared.stamp.Stamp.{Stamp}
 use Rattle.pm_ends.proofs.Laws.{took_first, took_others, took_received}
 use Rattle.pm_ends.proofs.Lists.{nth_is, some_same}
-use Rattle.pm_ends.specs.Ends.{Inn, Took, first_of, froms, post_stamp}
+use Rattle.pm_ends.specs.Ends.{Inn, Took, first_at, first_of, froms, post_stamp}
 use Rattle.pm_ends.specs.Numbers.{AreRising, Begins, nth}
+use Rattle.pm_ends.specs.Trees.{IsSoonest, moment_at}
 use Rattle.pm_ends.specs.declared.post.Post.{Post}
 use Rattle.pm_cell.specs.Helds.{Held, in_wire, view_of}
 use Rattle.pm_cell.specs.Stands.{CellView}
@@ -156,3 +157,51 @@ module _ (h : Held) (at : ℕ) (x : Post) (ys : List Inn) (t : Took at x h.inns 
     others = took_others at x h.inns ys t;
     wires = wires;
   })
+
+-- ---- the soonest of all first items
+
+first_none : (v : CellView) (from : ℕ) (l : List Post) → option_map post_stamp (first_of l) ≡ None
+    → stamp_first v from (first_of l) ≡ None
+first_none v from [] e = refl
+first_none v from (x ∷ l) e = absurd (none_some (post_stamp x) (sym e))
+
+end_none : (v : CellView) (i : Option Inn) → option_map post_stamp (first_at i) ≡ None → stamp_end v i ≡ None
+end_none v None e = refl
+end_none v (Some i) e = first_none v i.from i.waiting e
+
+-- where nothing waits nothing may be heard
+pub none_ready : (h : Held) → ((i : ℕ) → moment_at h.inns i ≡ None) → (i : ℕ) → stamp_at i h ≡ None
+none_ready h none i = end_none (view_of h) (nth h.inns i) (none i)
+
+ready_moment : (b : Bool) (s t : Stamp) → cond b (Some s) None ≡ Some t → Some s ≡ Some t
+ready_moment true s t e = e
+ready_moment false s t e = absurd (none_some t e)
+
+first_moment : (v : CellView) (from : ℕ) (l : List Post) (t : Stamp) → stamp_first v from (first_of l) ≡ Some t
+    → option_map post_stamp (first_of l) ≡ Some t
+first_moment v from [] t e = absurd (none_some t e)
+first_moment v from (x ∷ l) t e = ready_moment (is_ready v from x) (post_stamp x) t e
+
+end_moment : (v : CellView) (i : Option Inn) (t : Stamp) → stamp_end v i ≡ Some t
+    → option_map post_stamp (first_at i) ≡ Some t
+end_moment v None t e = absurd (none_some t e)
+end_moment v (Some i) t e = first_moment v i.from i.waiting t e
+
+-- the moment of an item that may be heard is that of the item
+pub moment_of : (h : Held) (i : ℕ) (t : Stamp) → stamp_at i h ≡ Some t → moment_at h.inns i ≡ Some t
+moment_of h i t e = end_moment (view_of h) (nth h.inns i) t e
+
+-- the soonest of all first items is the one that is heard next, where it may be delivered
+pub soonest_next : (h : Held) (at : ℕ) (s : Stamp) → IsSoonest h.inns at → stamp_at at h ≡ Some s → IsNext h at
+soonest_next h at s soon ready =
+    let same : soon.stamp ≡ s = some_same soon.stamp s (sym soon.here ∙ moment_of h at s ready) in
+    record {
+      stamp = s;
+      ready = ready;
+      least = λ i t e. subst (λ (u : Stamp). stamp_lt t u ≡ false) same (soon.least i t (moment_of h i t e));
+      first = λ i t lt e. subst (λ (u : Stamp). stamp_lt u t ≡ true) same (soon.first i t lt (moment_of h i t e));
+    }
+
+-- a cell of which the in-ends alone may be others is that cell with these
+pub with_inns : (h g : Held) (P : Held → Type 0) → g ≡ record h { inns = g.inns } → P g → P (record h { inns = g.inns })
+with_inns h g P e p = subst P e p

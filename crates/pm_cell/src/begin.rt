@@ -70,6 +70,7 @@ fn first_cell<'a>(
         clock: 0,
         spoilt: false,
         window: None,
+        withdrawn: 0,
     }
 }
 

@@ -1,7 +1,7 @@
 use Rattle.std.proofs.Common.{◌≡◌, ◌≤◌, ap, arith, length, subst}
 use Rattle.pm_cell.specs.Helds.{Held}
 use Rattle.pm_cell.proofs.Choices.{IsChosen, chosen_more, front_next, none_next}
-use Rattle.pm_cell.proofs.cell.Cell.next_place.Goals as goal
+use Rattle.pm_cell.proofs.cell.Cell.next_of_all.Goals as goal
 
 pub loop-at-preserved : goal.loop-at-preserved
 loop-at-preserved c =
