@@ -66,7 +66,7 @@ pub record TookFrom (from : ℕ) (x : Post) (xs ys : List Inn) : Type 0 where
 -- the first item of the in-end at that place, which is that process's and may be delivered, was taken
 pub record TookNext (at from : ℕ) (x : Post) (h : Held) (ys : List Inn) : Type 0 where
   pub took : Took at x h.inns ys
-  pub from : took.was.from ≡ from
+  pub sender : took.was.from ≡ from
   pub item : TookFrom from x h.inns ys
   pub ready : is_ready (view_of h) from x ≡ true
 

@@ -23,9 +23,10 @@ use std::mem::replace;
 pub struct Cell<'a> {
     pub(crate) plan: &'a Plan,
     pub(crate) number: u32,
-    pub(crate) process: Process<'a>,
+    // In boxes, since a cell is moved into and out of its turn lock at each turn.
+    pub(crate) process: Box<Process<'a>>,
+    pub(crate) outs: Box<OutEnds>,
     pub(crate) inns: InEnds,
-    pub(crate) outs: OutEnds,
     pub(crate) story: History,
     pub(crate) clock: u64,
     // Whether memory was wanting in a turn: then every later turn answers `Memory`.
@@ -48,16 +49,16 @@ impl<'a> Model for Cell<'a> {
     ghost view = { λ c. record {
       plan = c.plan.now;
       number = c.number;
-      process = c.process;
+      process = c.process.value;
       inns = c.inns;
-      outs = c.outs;
+      outs = c.outs.value;
       story = c.story.heard;
       clock = c.clock;
       spoilt = c.spoilt;
       window = c.window;
     } };
 
-    ghost invariant = { λ c. IsCell c.plan.now c.number c.process c.story c.clock c.outs c.spoilt };
+    ghost invariant = { λ c. IsCell c.plan.now c.number c.process.value c.story c.clock c.outs.value c.spoilt };
 }
 
 // The moment for which a process waits.

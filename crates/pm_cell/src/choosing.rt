@@ -1,5 +1,5 @@
 //! Which item a cell hears next.
-ghost use Rattle.std.specs.Prelude.{◌≡◌, ℕ, ⊥, true, false, IfSome, MatchOption, Some, None};
+ghost use Rattle.std.specs.Prelude.{◌≡◌, ℕ, true, false, IfSome, MatchOption, Some, None};
 ghost use Rattle.pm_ends.specs.Ends.{AllGrew};
 ghost use Rattle.pm_plan.specs.declared.plan.Plan.{Plan as ThePlan};
 ghost use Rattle.pm_sim.specs.Ready.{kept_back};
@@ -130,8 +130,20 @@ impl<'a> Cell<'a> {
         }
     }
 
-    // The same place. The soonest of all first items is the one where it may be delivered; else a window keeps it back, as
-    // it does at an agent alone, which has two in-ends at most.
+    // The place of the in-end that has the soonest of all first items, where that one may be delivered.
+    fn soonest_ready(&self) -> Option<usize>
+        requires { self.now.spoilt ≡ false }
+        ensures { IfSome result (IsNext self.now) }
+    {
+        let at = self.inns.soonest()?;
+        match self.ready_at(at) {
+            Some(_) => Some(at),
+            None => None,
+        }
+    }
+
+    // The place of the in-end whose first item is heard next. It looks at each only where the soonest of all first items
+    // may not be delivered: a window keeps it back, as it does at an agent alone, which has two in-ends at most.
     fn next_place(&self) -> Option<usize>
         requires { self.now.spoilt ≡ false }
         ensures { MatchOption result ((at : ℕ) → stamp_at at self.now ≡ None) (IsNext self.now) }
@@ -143,8 +155,8 @@ impl<'a> Cell<'a> {
         }
     }
 
-    // Looks at one in-end, the next in turn, and at all of them only where none then has a first item that may be
-    // delivered: the place of the in-end whose first item is heard next.
+    // Looks at one in-end, the next in turn, and at all of them only where the soonest of all first items may not be
+    // delivered then: the place of the in-end whose first item is heard next.
     fn look(&mut self) -> Option<usize>
         requires { self.old.spoilt ≡ false }
         ensures same { self.new ≡ record self.old { inns = self.new.inns } }
@@ -152,7 +164,7 @@ impl<'a> Cell<'a> {
         ensures next { MatchOption result ((at : ℕ) → stamp_at at self.new ≡ None) (IsNext self.new) }
     {
         self.inns.poll_next();
-        if let Some(at) = self.next_place() {
+        if let Some(at) = self.soonest_ready() {
             return Some(at);
         }
         poll_all(&mut self.inns);
