@@ -8,12 +8,13 @@ use Rattle.std.proofs.lemmas.Option.{slice_get_past}
 use Rattle.pm_base.specs.declared.stamp.Stamp.{Stamp}
 use Rattle.pm_ends.proofs.Laws.{took_first, took_others, took_received}
 use Rattle.pm_ends.proofs.Lists.{nth_is, some_same}
-use Rattle.pm_ends.specs.Ends.{Inn, Took, first_of, froms, post_stamp}
+use Rattle.pm_ends.specs.Ends.{AllGrew, Inn, Took, first_at, first_of, froms, post_stamp}
 use Rattle.pm_ends.specs.Numbers.{AreRising, Begins, nth}
+use Rattle.pm_ends.specs.Trees.{IsSoonest, moment_at}
 use Rattle.pm_ends.specs.declared.post.Post.{Post}
 use Rattle.pm_cell.specs.Helds.{Held, in_wire, view_of}
 use Rattle.pm_cell.specs.Stands.{CellView}
-use Rattle.pm_cell.specs.Turns.{IsNext, IsSooner, TookFrom, is_ready, stamp_at, stamp_end, stamp_first}
+use Rattle.pm_cell.specs.Turns.{ChoseNext, IsNext, IsSooner, TookFrom, TookNext, is_ready, stamp_at, stamp_end, stamp_first}
 use Rattle.pm_base.specs.Stamps.{stamp_lt}
 use Rattle.std.proofs.lemmas.Bool.Decides.{nat_tests}
 use Rattle.pm_cell.specs.declared.choosing.Front.{Front}
@@ -137,7 +138,7 @@ module _ (h : Held) (at : ℕ) (x : Post) (ys : List Inn) (t : Took at x h.inns 
   sender : from ≡ t.was.from
   sender = some_same from t.was.from (from_is ∙ ap (option_map (λ (i : Inn). i.from)) t.at)
 
-  pub took_ready : is_ready (view_of h) from x ≡ true
+  took_ready : is_ready (view_of h) from x ≡ true
   took_ready =
       let first : stamp_first (view_of h) t.was.from (first_of t.was.waiting) ≡ Some next.stamp =
       sym (ap (stamp_end (view_of h)) t.at) ∙ next.ready in
@@ -149,10 +150,102 @@ module _ (h : Held) (at : ℕ) (x : Post) (ys : List Inn) (t : Took at x h.inns 
       ((λ i. record { from = t.from i; slot = t.slot i; link = t.link i })
       ∙ ap in_wire (sym (nth_is h.inns at t.was t.was t.at).1))
 
-  pub took_from : AreRising (froms h.inns) → TookFrom from x h.inns ys
+  took_from : AreRising (froms h.inns) → TookFrom from x h.inns ys
   took_from up = subst (λ (n : ℕ). TookFrom n x h.inns ys) (sym sender) (record {
     received = took_received at x h.inns ys t up;
     first = took_first at x h.inns ys t up;
     others = took_others at x h.inns ys t;
     wires = wires;
   })
+
+  pub took_next : AreRising (froms h.inns) → TookNext at from x h ys
+  took_next up = record { took = t; sender = sym sender; item = took_from up; ready = took_ready }
+
+-- ---- the soonest of all first items
+
+first_none : (v : CellView) (from : ℕ) (l : List Post) → option_map post_stamp (first_of l) ≡ None
+    → stamp_first v from (first_of l) ≡ None
+first_none v from [] e = refl
+first_none v from (x ∷ l) e = absurd (none_some (post_stamp x) (sym e))
+
+end_none : (v : CellView) (i : Option Inn) → option_map post_stamp (first_at i) ≡ None → stamp_end v i ≡ None
+end_none v None e = refl
+end_none v (Some i) e = first_none v i.from i.waiting e
+
+-- where nothing waits nothing may be heard
+pub none_ready : (h : Held) → ((i : ℕ) → moment_at h.inns i ≡ None) → (i : ℕ) → stamp_at i h ≡ None
+none_ready h none i = end_none (view_of h) (nth h.inns i) (none i)
+
+ready_moment : (b : Bool) (s t : Stamp) → cond b (Some s) None ≡ Some t → Some s ≡ Some t
+ready_moment true s t e = e
+ready_moment false s t e = absurd (none_some t e)
+
+first_moment : (v : CellView) (from : ℕ) (l : List Post) (t : Stamp) → stamp_first v from (first_of l) ≡ Some t
+    → option_map post_stamp (first_of l) ≡ Some t
+first_moment v from [] t e = absurd (none_some t e)
+first_moment v from (x ∷ l) t e = ready_moment (is_ready v from x) (post_stamp x) t e
+
+end_moment : (v : CellView) (i : Option Inn) (t : Stamp) → stamp_end v i ≡ Some t
+    → option_map post_stamp (first_at i) ≡ Some t
+end_moment v None t e = absurd (none_some t e)
+end_moment v (Some i) t e = first_moment v i.from i.waiting t e
+
+-- the moment of an item that may be heard is that of the item
+pub moment_of : (h : Held) (i : ℕ) (t : Stamp) → stamp_at i h ≡ Some t → moment_at h.inns i ≡ Some t
+moment_of h i t e = end_moment (view_of h) (nth h.inns i) t e
+
+-- the soonest of all first items is the one that is heard next, where it may be delivered
+pub soonest_next : (h : Held) (at : ℕ) (s : Stamp) → IsSoonest h.inns at → stamp_at at h ≡ Some s → IsNext h at
+soonest_next h at s soon ready =
+    let same : soon.stamp ≡ s = some_same soon.stamp s (sym soon.here ∙ moment_of h at s ready) in
+    record {
+      stamp = s;
+      ready = ready;
+      least = λ i t e. subst (λ (u : Stamp). stamp_lt t u ≡ false) same (soon.least i t (moment_of h i t e));
+      first = λ i t lt e. subst (λ (u : Stamp). stamp_lt u t ≡ true) same (soon.first i t lt (moment_of h i t e));
+    }
+
+-- ---- what is taken is what was chosen
+
+end_sender : (v : CellView) (o : Option Inn) (s : Stamp) → stamp_end v o ≡ Some s
+    → None ≡ option_map (λ (i : Inn). i.from) o → ⊥
+end_sender v None s e f = none_some s e
+end_sender v (Some i) s e f = absurd (cc)
+
+-- an end that is heard next has a sender
+pub no_sender : (h : Held) (at : ℕ) → IsNext h at → None ≡ option_map (λ (i : Inn). i.from) (nth h.inns at) → ⊥
+no_sender h at next e = end_sender (view_of h) (nth h.inns at) next.stamp next.ready e
+
+first_item : (v : CellView) (from : ℕ) (o : Option Post) (s : Stamp) → stamp_first v from o ≡ Some s → o ≡ None → ⊥
+first_item v from None s e f = none_some s e
+first_item v from (Some x) s e f = absurd (cc)
+
+end_item : (v : CellView) (o : Option Inn) (s : Stamp) → stamp_end v o ≡ Some s → first_at o ≡ None → ⊥
+end_item v None s e f = none_some s e
+end_item v (Some i) s e f = first_item v i.from (first_of i.waiting) s e f
+
+-- and an item
+pub no_item : (h : Held) (at : ℕ) → IsNext h at → first_at (nth h.inns at) ≡ None → ⊥
+no_item h at next e = end_item (view_of h) (nth h.inns at) next.stamp next.ready e
+
+-- where none can't be answered
+pub some_weaker : {T : Type 0} (o : Option T) (A : Type 0) (P Q : T → Type 0) → MatchOption o ⊥ P
+    → ((y : T) → P y → Q y) → MatchOption o A Q
+some_weaker None A P Q m f = absurd m
+some_weaker (Some y) A P Q m f = f y m
+
+-- the cell that took the item is the one before with other in-ends
+pub inns_twice : (a b m : Held) → b ≡ record a { inns = b.inns } → m ≡ record b { inns = m.inns }
+    → m ≡ record a { inns = m.inns }
+inns_twice a b m one two = two ∙ ap (λ (z : Held). record z { inns = m.inns }) one
+
+-- the cell b, which looked, took what is next there
+pub chose : (a b : Held) (at from : ℕ) (x : Post) (ys : List Inn) → b ≡ record a { inns = b.inns }
+    → AllGrew a.inns b.inns → IsNext b at → TookNext at from x b ys → ChoseNext from x a ys
+chose a b at from x ys same grew next took = record {
+  known = b.inns;
+  grew = grew;
+  at = at;
+  next = subst (λ (z : Held). IsNext z at) same next;
+  took = subst (λ (z : Held). TookNext at from x z ys) same took;
+}

@@ -6,7 +6,7 @@ use Rattle.std.proofs.lemmas.Bool.{false≢true}
 use Rattle.std.proofs.lemmas.Bool.Decides.{nat_tests}
 use Rattle.pm_ends.proofs.Laws.{grew_received, grew_waiting}
 use Rattle.pm_ends.proofs.Lists.{begins_on, pairs_map}
-use Rattle.pm_ends.specs.Ends.{AllGrew, Grew, Inn, first_of, post_stamp, received_in, waiting_in}
+use Rattle.pm_ends.specs.Ends.{AllGrew, Grew, Inn, Took, first_of, post_stamp, received_in, waiting_in}
 use Rattle.pm_ends.specs.Numbers.{Begins, nth}
 use Rattle.pm_ends.specs.declared.post.Post.{Post}
 use Rattle.pm_cell.specs.Cells.{Came, IsBlocked, Turned}
@@ -15,7 +15,8 @@ use Rattle.pm_cell.specs.Helds.{Held, in_wire, made_of, state_of, view_of}
 use Rattle.pm_cell.specs.Machines.{Machine}
 use Rattle.pm_cell.specs.Sides.{Side, raised, stamped}
 use Rattle.pm_cell.specs.Stands.{CellCame, CellIsIdle, CellTurned, CellView}
-use Rattle.pm_cell.specs.Turns.{HeardIt, StaysAt, TookFrom, is_ready, stamp_at, stamp_end, stamp_first}
+use Rattle.pm_cell.specs.Turns.{ChoseNext, HeardIt, HeardSoonest, StaysAt, TookFrom, is_ready, stamp_at, stamp_end}
+use Rattle.pm_cell.specs.Turns.{stamp_first}
 use Rattle.pm_cell.specs.Views.{View}
 use Rattle.std.proofs.Common.{None}
 use Rattle.pm_cell.proofs.Choices.{not_stamped}
@@ -64,6 +65,10 @@ took_on from x xs ys zs g t = record {
   wires = t.wires ∙ pairs_map Grew in_wire (λ x y s i. record { from = s.from i; slot = s.slot i; link = s.link i }) xs
       ys g;
 }
+
+-- the item that was chosen was taken from the ends as they were
+pub chosen_from : (a : Held) (from : ℕ) (x : Post) (zs : List Inn) → ChoseNext from x a zs → TookFrom from x a.inns zs
+chosen_from a from x zs c = took_on from x a.inns c.known zs c.grew c.took.item
 
 -- an item that may be delivered is let through
 through : (a b h t : Bool) → ((a && b) && (not h && t)) ≡ true → h ≡ false
@@ -122,6 +127,23 @@ module _ (a : Held) (from : ℕ) (x : Post) (zs : List Inn) (d : Held) (took : T
         first = first;
         others = others;
       }
+
+  module _ (chosen : ChoseNext from x a zs) where
+    there : (t : Took chosen.at x chosen.known d.inns) × (t.was.from ≡ from)
+    there = subst (λ (l : List Inn). (t : Took chosen.at x chosen.known l) × (t.was.from ≡ from)) (sym stays.inns)
+        (chosen.took.took, chosen.took.sender)
+
+    -- of what was known it heard the soonest
+    pub heard_soonest : HeardIt from x (record a { inns = zs }) d → HeardSoonest a d
+    heard_soonest heard = record {
+      known = chosen.known;
+      grew = chosen.grew;
+      at = chosen.at;
+      next = chosen.next;
+      post = x;
+      took = there.0;
+      story = heard.story ∙ ap (λ (n : ℕ). a.story ++ record { clock = d.clock; from = n } ∷ []) (sym there.1);
+    }
 
   -- there was no memory for it
   pub lost_came : d.spoilt ≡ true → d.story ≡ a.story → CellCame (view_of a) (view_of d)

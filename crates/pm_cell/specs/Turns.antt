@@ -5,7 +5,7 @@ use Rattle.pm_base.specs.Stamps.{stamp_lt}
 use Rattle.pm_base.specs.declared.stamp.Stamp.{Stamp}
 use Rattle.pm_core.specs.Mails.{receiver}
 use Rattle.pm_core.specs.declared.process.Process.{Process}
-use Rattle.pm_ends.specs.Ends.{Inn, Out, first_of, post_stamp, received_in, sent_in, waiting_in}
+use Rattle.pm_ends.specs.Ends.{AllGrew, Inn, Out, Took, first_of, post_stamp, received_in, sent_in, waiting_in}
 use Rattle.pm_ends.specs.Ends.{sent_to as sent_over_end}
 use Rattle.pm_ends.specs.Numbers.{Begins, nth}
 use Rattle.pm_ends.specs.declared.post.Post.{Post}
@@ -62,6 +62,34 @@ pub record TookFrom (from : ℕ) (x : Post) (xs ys : List Inn) : Type 0 where
   pub first : Begins (waiting_in xs from) (x ∷ waiting_in ys from)
   pub others : (b : ℕ) → (b ≡ from → ⊥) → Begins (waiting_in xs b) (waiting_in ys b)
   pub wires : map in_wire ys ≡ map in_wire xs
+
+-- the first item of the in-end at that place, which is that process's and may be delivered, was taken
+pub record TookNext (at from : ℕ) (x : Post) (h : Held) (ys : List Inn) : Type 0 where
+  pub took : Took at x h.inns ys
+  pub sender : took.was.from ≡ from
+  pub item : TookFrom from x h.inns ys
+  pub ready : is_ready (view_of h) from x ≡ true
+
+-- the in-ends as they were when the cell chose, after more may have come to each; the item that was to be heard next was
+-- taken
+pub record ChoseNext (from : ℕ) (x : Post) (h : Held) (ys : List Inn) : Type 0 where
+  pub known : List Inn
+  pub grew : AllGrew h.inns known
+  pub at : ℕ
+  pub next : IsNext (record h { inns = known }) at
+  pub took : TookNext at from x (record h { inns = known }) ys
+
+-- a turn heard the soonest message: when it chose, each in-end held as known what it had held before the turn and perhaps
+-- more; of the first items that might be delivered then it heard the one of least moment, at one moment the one of the
+-- least sender, and the receipt names that sender
+pub record HeardSoonest (a b : Held) : Type 0 where
+  pub known : List Inn
+  pub grew : AllGrew a.inns known
+  pub at : ℕ
+  pub next : IsNext (record a { inns = known }) at
+  pub post : Post
+  pub took : Took at post known b.inns
+  pub story : b.story ≡ a.story ++ record { clock = b.clock; from = took.was.from } ∷ []
 
 -- what a communication process sends goes over the out-ends, in order, with that clock
 abbrev pub sent_all : ℕ → List Sent → List Out → List Out

@@ -45,7 +45,7 @@ fn send_wakes(
     Ok(())
 }
 
-// The cell of a process at first.
+// The cell of a process at first, which stands in memory of its own, and so do its out-ends.
 fn first_cell<'a>(
     alloc: Global,
     plan: &'a Plan,
@@ -53,24 +53,27 @@ fn first_cell<'a>(
     process: Process<'a>,
     inns: InEnds,
     outs: OutEnds,
-) -> Cell<'a>
+) -> Result<Cell<'a>, Memory>
     requires valid { IsValid plan.now }
     requires there { number < clps_of plan.now + length plan.now.agents }
     requires process { IsProcessOf plan.now number process }
     requires receivers { tos outs ≡ receivers_of plan.now number }
-    ensures { result ≡ first_held plan.now number process.entry inns outs }
+    ensures { IfOk result (λ cell. cell ≡ first_held plan.now number process.entry inns outs) }
 {
-    Cell {
+    let process = Box::new(alloc, process)?;
+    let outs = Box::new(alloc, outs)?;
+    Ok(Cell {
         plan,
         number,
         process,
-        inns,
         outs,
+        inns,
         story: History::new(alloc, number),
         clock: 0,
         spoilt: false,
         window: None,
-    }
+        withdrawn: 0,
+    })
 }
 
 // The cells of these processes at first, each with the ends of its number.
@@ -96,7 +99,8 @@ fn first_cells<'a>(
     for process in processes.into_vec() {
         let inn = replace(&mut inns[number as usize], InEnds::new(alloc));
         let out = replace(&mut outs[number as usize], OutEnds::new(alloc));
-        cells.push(first_cell(alloc, plan, number, process, inn, out))?;
+        let cell = first_cell(alloc, plan, number, process, inn, out)?;
+        cells.push(cell)?;
         number += 1;
     }
     Ok(cells)

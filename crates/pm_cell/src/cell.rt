@@ -23,14 +23,17 @@ use std::mem::replace;
 pub struct Cell<'a> {
     pub(crate) plan: &'a Plan,
     pub(crate) number: u32,
-    pub(crate) process: Process<'a>,
+    // In boxes, since a cell is moved into and out of its turn lock at each turn.
+    pub(crate) process: Box<Process<'a>>,
+    pub(crate) outs: Box<OutEnds>,
     pub(crate) inns: InEnds,
-    pub(crate) outs: OutEnds,
     pub(crate) story: History,
     pub(crate) clock: u64,
     // Whether memory was wanting in a turn: then every later turn answers `Memory`.
     pub(crate) spoilt: bool,
     pub(crate) window: Option<Line>,
+    // How many messages that withdraw a write it heard since that number was taken: for the pace of a run, not seen.
+    pub(crate) withdrawn: u64,
 }
 
 impl<'a> Model for Cell<'a> {
@@ -46,16 +49,16 @@ impl<'a> Model for Cell<'a> {
     ghost view = { λ c. record {
       plan = c.plan.now;
       number = c.number;
-      process = c.process;
+      process = c.process.value;
       inns = c.inns;
-      outs = c.outs;
+      outs = c.outs.value;
       story = c.story.heard;
       clock = c.clock;
       spoilt = c.spoilt;
       window = c.window;
     } };
 
-    ghost invariant = { λ c. IsCell c.plan.now c.number c.process c.story c.clock c.outs c.spoilt };
+    ghost invariant = { λ c. IsCell c.plan.now c.number c.process.value c.story c.clock c.outs.value c.spoilt };
 }
 
 // The moment for which a process waits.
@@ -110,6 +113,19 @@ impl<'a> Cell<'a> {
         ensures { IfOk result (λ h. h ≡ story_of (view_of self.now)) }
     {
         self.story.copy(alloc)
+    }
+
+    /// How many messages that withdraw a write it heard since this number was last taken by `take_withdrawn`, which tells
+    /// how much of what agents did ahead was taken back. No clause speaks of it. It takes no memory.
+    pub fn withdrawn(&self) -> u64 {
+        self.withdrawn
+    }
+
+    /// The same number, which is counted from 0 again: nothing that contracts see of the cell changes. It takes no memory.
+    pub fn take_withdrawn(&mut self) -> u64
+        ensures { self.new ≡ self.old }
+    {
+        replace(&mut self.withdrawn, 0)
     }
 
     /// The least moment that waits at its ends, or the end where nothing does. It takes no memory.

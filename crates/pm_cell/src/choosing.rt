@@ -6,7 +6,7 @@ ghost use Rattle.pm_sim.specs.Ready.{kept_back};
 ghost use Rattle.pm_sim.specs.Worlds.{process as place};
 ghost use Rattle.pm_cell.specs.Cores.{holds_at, takes_at};
 ghost use Rattle.pm_cell.specs.Helds.{IsProcessOf, made_of, state_of, view_of};
-ghost use Rattle.pm_cell.specs.Turns.{IsNext, IsSooner, TookFrom, is_ready, stamp_at};
+ghost use Rattle.pm_cell.specs.Turns.{ChoseNext, IsNext, IsSooner, TookNext, is_ready, stamp_at};
 
 use crate::cell::Cell;
 use pm_alp::Alp;
@@ -89,14 +89,6 @@ fn sooner(next: Option<Front>, at: usize, stamp: Option<Stamp>) -> Option<Front>
 }
 
 impl<'a> Cell<'a> {
-    // Looks at each in-end where nothing waits.
-    pub(crate) fn look(&mut self)
-        ensures same { self.new ≡ record self.old { inns = self.new.inns } }
-        ensures grew { AllGrew self.old.inns self.new.inns }
-    {
-        poll_all(&mut self.inns);
-    }
-
     // Whether the item from there may be delivered.
     fn is_ready(&self, from: u32, post: &Post) -> bool
         requires { self.now.spoilt ≡ false }
@@ -123,8 +115,8 @@ impl<'a> Cell<'a> {
     }
 
     // The place of the in-end whose first item is heard next: of those that may be delivered the one of the least
-    // moment, at one moment the one of the least sender.
-    fn next_place(&self) -> Option<usize>
+    // moment, at one moment the one of the least sender. It looks at the first item of each in-end.
+    fn next_of_all(&self) -> Option<usize>
         requires { self.now.spoilt ≡ false }
         ensures { MatchOption result ((at : ℕ) → stamp_at at self.now ≡ None) (IsNext self.now) }
     {
@@ -138,18 +130,70 @@ impl<'a> Cell<'a> {
         }
     }
 
-    // Takes the item that is heard next, and tells who sent it: none where no first item of an in-end may be delivered.
+    // The place of the in-end that has the soonest of all first items, where that one may be delivered.
+    fn soonest_ready(&self) -> Option<usize>
+        requires { self.now.spoilt ≡ false }
+        ensures { IfSome result (IsNext self.now) }
+    {
+        let at = self.inns.soonest()?;
+        match self.ready_at(at) {
+            Some(_) => Some(at),
+            None => None,
+        }
+    }
+
+    // The place of the in-end whose first item is heard next. It looks at each only where the soonest of all first items
+    // may not be delivered: a window keeps it back, as it does at an agent alone, which has two in-ends at most.
+    fn next_place(&self) -> Option<usize>
+        requires { self.now.spoilt ≡ false }
+        ensures { MatchOption result ((at : ℕ) → stamp_at at self.now ≡ None) (IsNext self.now) }
+    {
+        let at = self.inns.soonest()?;
+        match self.ready_at(at) {
+            Some(_) => Some(at),
+            None => self.next_of_all(),
+        }
+    }
+
+    // Looks at one in-end, the next in turn, and at all of them only where the soonest of all first items may not be
+    // delivered then: the place of the in-end whose first item is heard next.
+    fn look(&mut self) -> Option<usize>
+        requires { self.old.spoilt ≡ false }
+        ensures same { self.new ≡ record self.old { inns = self.new.inns } }
+        ensures grew { AllGrew self.old.inns self.new.inns }
+        ensures next { MatchOption result ((at : ℕ) → stamp_at at self.new ≡ None) (IsNext self.new) }
+    {
+        self.inns.poll_next();
+        if let Some(at) = self.soonest_ready() {
+            return Some(at);
+        }
+        poll_all(&mut self.inns);
+        self.next_place()
+    }
+
+    // Takes the first item of the in-end at that place, which is the one that is heard next, and tells who sent it.
+    fn take_at(&mut self, at: usize) -> Option<(u32, Post)>
+        requires sound { self.old.spoilt ≡ false }
+        requires next { IsNext self.old at }
+        ensures same { self.new ≡ record self.old { inns = self.new.inns } }
+        ensures item { MatchOption result ⊥ (λ r. TookNext at r.0 r.1 self.old self.new.inns) }
+    {
+        senders_rise(&self.inns);
+        let from = self.inns.from(at)?;
+        let post = self.inns.take(at)?;
+        Some((from, post))
+    }
+
+    // Takes the item that is heard next, and tells who sent it: none where no first item of an in-end may be delivered,
+    // for which it looks at each in-end.
     pub(crate) fn take_next(&mut self) -> Option<(u32, Post)>
         requires { self.old.spoilt ≡ false }
         ensures same { self.new ≡ record self.old { inns = self.new.inns } }
         ensures item { MatchOption result
-            ((self.new ≡ self.old) × ((at : ℕ) → stamp_at at self.old ≡ None))
-            (λ r. TookFrom r.0 r.1 self.old.inns self.new.inns × (is_ready (view_of self.old) r.0 r.1 ≡ true)) }
+            (AllGrew self.old.inns self.new.inns × ((at : ℕ) → stamp_at at self.new ≡ None))
+            (λ r. ChoseNext r.0 r.1 self.old self.new.inns) }
     {
-        senders_rise(&self.inns);
-        let at = self.next_place()?;
-        let from = self.inns.from(at)?;
-        let post = self.inns.take(at)?;
-        Some((from, post))
+        let at = self.look()?;
+        self.take_at(at)
     }
 }

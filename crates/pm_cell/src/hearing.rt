@@ -141,6 +141,14 @@ fn act(
     }
 }
 
+// How many messages that withdraw a write were heard, with this one. The number stays at its greatest.
+fn withdrawn_with(count: u64, message: &Message) -> u64 {
+    match message {
+        Message::Cut { .. } => count.saturating_add(1),
+        _ => count,
+    }
+}
+
 impl<'a> Cell<'a> {
     // Hears an item from there: its process takes the message, the clock is raised, and the receipt goes to the story.
     // After `Memory` the cell is spoilt.
@@ -154,6 +162,7 @@ impl<'a> Cell<'a> {
     {
         let Post { message, clock } = post;
         let clock = clock.max(self.clock) + 1;
+        let withdrawn = withdrawn_with(self.withdrawn, &message);
         self.spoilt = true;
         let post = Post { message, clock };
         act(
@@ -167,6 +176,7 @@ impl<'a> Cell<'a> {
         )?;
         self.story.hear(Heard { clock, from })?;
         self.clock = clock;
+        self.withdrawn = withdrawn;
         self.spoilt = false;
         Ok(())
     }

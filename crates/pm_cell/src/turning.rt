@@ -4,6 +4,7 @@ ghost use Rattle.pm_workers.specs.Turns.{grown, is_memory};
 ghost use Rattle.pm_workers.specs.declared.station.Turned.TheVariants as turned;
 ghost use Rattle.pm_cell.specs.Helds.{view_of};
 ghost use Rattle.pm_cell.specs.Stands.{CellCame, CellIsIdle, CellLooked, CellTurned};
+ghost use Rattle.pm_cell.specs.Turns.{HeardSoonest};
 ghost use Rattle.pm_cell.specs.Laws.{came_more, came_next, came_none};
 
 use crate::cell::Cell;
@@ -12,12 +13,15 @@ use pm_workers::{Station, Turned};
 use std::alloc::Global;
 
 impl<'a> Cell<'a> {
-    /// Gives the cell a turn: it hears one message at most, of the first ones at its in-ends that may be delivered
-    /// the one of the least moment. What other threads have sent meanwhile may be found or not. `Nothing` tells that
-    /// it is idle. After `Memory` the cell is spoilt: every later turn answers `Memory`.
+    /// Gives the cell a turn: it hears one message at most, of the first ones that wait at its in-ends and may be
+    /// delivered the one of the least moment, at one moment the one of the least sender. It looks at one in-end, the
+    /// next in turn, for what other threads have sent, and at all of them only before it answers `Nothing`; what they
+    /// have sent meanwhile may be found or not. `Nothing` tells that it is idle. After `Memory` the cell is spoilt: every
+    /// later turn answers `Memory`.
     pub fn take_turn(&mut self, alloc: Global) -> Turned
         ensures came { CellCame (view_of self.old) (view_of self.new) }
         ensures heard { result ≡ turned.Delivered → CellTurned (view_of self.old) (view_of self.new) }
+        ensures soonest { result ≡ turned.Delivered → HeardSoonest self.old self.new }
         ensures looked { result ≡ turned.Nothing → CellLooked (view_of self.old) (view_of self.new) }
         ensures idle { result ≡ turned.Nothing → CellIsIdle (view_of self.new) }
         ensures story { length self.new.story ≡ length self.old.story + grown result }
@@ -27,7 +31,6 @@ impl<'a> Cell<'a> {
         if self.spoilt {
             return Turned::Memory;
         }
-        self.look();
         let Some((from, post)) = self.take_next() else {
             return Turned::Nothing;
         };

@@ -29,6 +29,7 @@ const ONE: Line = Line::At(Stamp { time: 1, agent: 0 });
 
 /// Whose turn it is, turn by turn, each of which hears a message; what the stories then merge into; the least moment
 /// that waits, and what a Commit there hands out; the turns behind it, and what their stories merge into.
+#[derive(Drop)]
 struct Row {
     name: &'static str,
     scenario: &'static str,
@@ -84,6 +85,33 @@ const ROWS: [Row; 4] = [
         rest: "",
     },
 ];
+
+/// Three of 1,024 agents at one process act, of which each begins sooner than those before it: the process hears them in
+/// order of moment. Then the last agent acts, which begins first of all.
+const CROWD: Row = Row {
+    name: "a process of 1,024 senders",
+    scenario: "",
+    turns: &[6, 301, 1001, 0, 0, 0],
+    journal: "#j d 6 6\n#j d 301 301\n#j d 1001 1001\n#j d 0 1001\n#j d 0 301\n#j d 0 6\n",
+    line: Line::At(Stamp { time: 1, agent: 1023 }),
+    trace: "",
+    later: &[1024, 0],
+    rest: "#j d 1024 1024\n#j d 0 1024\n",
+};
+
+/// The scenario of that row.
+fn crowd(alloc: Global) -> Result<String, AllocError> {
+    let mut text = String::from_str(
+        alloc,
+        "version = 1\nhorizon = 2000\n[[clp]]\nname = \"root\"\n[[class]]\nname = \"cell\"\n[[class.var]]\nname = \"c0\"\nat = \"root\"\n",
+    )?;
+    for k in 0..1024_u32 {
+        let start = 1024 - k;
+        let agent = format!(in alloc; "[[agent]]\nname = \"a{k}\"\nhome = \"root\"\nstart = {start}\nrule = \"set c0 = 1, 0\"\n")?;
+        text.push_str(agent.as_str())?;
+    }
+    Ok(text)
+}
 
 /// A turn for the cell at that place; whether it heard a message.
 fn turn_at(alloc: Global, cells: &mut [Cell<'_>], at: usize) -> bool
@@ -215,5 +243,20 @@ fn windows_keep_wakes_back(rt: HostRuntime) -> Result<(), Fail> {
         let wakes = cell.number() == 1;
         assert!(rt; (cell.turn(alloc) == Turned::Delivered) == wakes);
     }
+    Ok(())
+}
+
+/// A process hears the soonest of what its senders sent, however many they are.
+#[test]
+fn a_turn_hears_the_soonest_of_1_024_senders(rt: HostRuntime) -> Result<(), Fail> {
+    let alloc = rt.alloc();
+    let text = crowd(alloc)?;
+    let bytes = text.as_bytes();
+    assert!(rt; bytes.len() < 1_000_000);
+    let plan = read(alloc, bytes).map_err(|_| AllocError)?;
+    let left = left_of(alloc, &plan, &CROWD).map_err(|_| AllocError)?;
+    assert!(rt; left.heard && left.line == CROWD.line);
+    assert!(rt; left.journal.as_slice() == CROWD.journal.as_bytes());
+    assert!(rt; left.trace.is_empty() && left.rest.as_slice() == CROWD.rest.as_bytes());
     Ok(())
 }

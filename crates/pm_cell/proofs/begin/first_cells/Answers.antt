@@ -33,7 +33,7 @@ loop-process-preserved c =
     let O = c.args.outs.items in
     let more = ap length c.in-Some.ensures.steps.0 in
     let one : n + 1 ≡ suc n = omega arith in
-    let r = c.first_cell.result in
+    let r = c.in_ok-cell.cell in
     let low_inns : n < length c.loop-process.inns.items =
     omega (arith, more, c.loop-process.invariant.count, c.loop-process.invariant.inns_long, c.requires.inns) in
     let low_outs : n < length c.loop-process.outs.items =
@@ -51,7 +51,7 @@ loop-process-preserved c =
           ∙ (append_assoc c.loop-process.cells (r ∷ []) (first_helds p (n + 1) rest I O)
           ∙ (ap (λ k. c.loop-process.cells ++ (r ∷ first_helds p k rest I O)) one
           ∙ (ap (λ z. c.loop-process.cells ++ (z ∷ first_helds p (suc n) rest I O))
-          (c.first_cell.ensures ∙ ap₂ (λ a b. first_held p n x a b) inn out)
+          (c.in_ok-cell.ensures ∙ ap₂ (λ a b. first_held p n x a b) inn out)
           ∙ (ap (λ xs. c.loop-process.cells ++ first_helds p n xs I O) (sym c.in-Some.ensures.steps.0)
           ∙ c.loop-process.invariant.cells))));
       count = omega (arith, more, c.loop-process.invariant.count);

@@ -1,4 +1,5 @@
-use Rattle.std.proofs.Common.{◌≡◌, ◌≤◌, ◌+◌, ◌∙◌, ap, arith, subst, sym}
+use Rattle.std.proofs.Common.{◌≡◌, ◌≤◌, ◌+◌, ◌∙◌, ap, arith, map, subst, sym}
+use Rattle.pm_cell.specs.Helds.{out_wire}
 use Rattle.std.specs.List.{AllByRecursion}
 use Rattle.std.proofs.lemmas.Bool.{false≢true}
 use Rattle.pm_history.specs.Stories.{Story}
@@ -15,7 +16,8 @@ invariant_of-self c =
       process = λ e. absurd (false≢true (sym e));
       history = i.history;
       clocks = i.clocks;
-      receivers = tos_wires c.self.inside.outs c.act.new.outs c.act.ensures.wires ∙ i.receivers;
+      receivers = tos_wires c.self.inside.outs.value c.act.new.outs
+          (c.act.ensures.wires ∙ ap (map out_wire) c.deref_mut-2.ensures.value) ∙ i.receivers;
     }
 
 pub hear-requires : goal.hear-requires
@@ -35,7 +37,8 @@ invariant_of-self-in_err-hear c =
       history = ap (λ (s : Story). s.process) same ∙ i.history;
       clocks = subst (λ (s : Story). AllByRecursion (λ (h : Heard). h.clock ≤ c.self.inside.clock) s.heard)
           (sym same) i.clocks;
-      receivers = tos_wires c.self.inside.outs c.act.new.outs c.act.ensures.wires ∙ i.receivers;
+      receivers = tos_wires c.self.inside.outs.value c.act.new.outs
+          (c.act.ensures.wires ∙ ap (map out_wire) c.deref_mut-2.ensures.value) ∙ i.receivers;
     }
 
 pub invariant_of-self-2 : goal.invariant_of-self-2
@@ -50,5 +53,6 @@ invariant_of-self-2 c =
       history = ap (λ (s : Story). s.process) c.in_ok-hear.ensures.ok ∙ i.history;
       clocks = subst (λ (s : Story). AllByRecursion (λ (h : Heard). h.clock ≤ m) s.heard) (sym c.in_ok-hear.ensures.ok)
           (clocks_more c.self.inside.clock m c.args.from c.self.inside.story.heard le i.clocks);
-      receivers = tos_wires c.self.inside.outs c.act.new.outs c.act.ensures.wires ∙ i.receivers;
+      receivers = tos_wires c.self.inside.outs.value c.act.new.outs
+          (c.act.ensures.wires ∙ ap (map out_wire) c.deref_mut-2.ensures.value) ∙ i.receivers;
     }
