@@ -7,7 +7,7 @@ use Rattle.pm_base.specs.declared.run.Event.TheVariants as event
 use Rattle.pm_calm.specs.Lowest.{LowestRun, PartOfLowest, Underway, commits, is_begun, least_link}
 use Rattle.pm_core.specs.Views.{committed as world_committed, has_mail}
 use Rattle.pm_io.specs.Causes.{AppendsPart, AppendsPrefix}
-use Rattle.pm_kernel.specs.Counts.{counted_on}
+use Rattle.pm_kernel.specs.Counts.{counted_on, no_counts}
 use Rattle.pm_kernel.specs.Runs.{IsDone}
 use Rattle.pm_kernel.specs.declared.ran.Outcome.{Outcome}
 use Rattle.pm_kernel.specs.declared.ran.Outcome.TheVariants as outcome
@@ -32,7 +32,7 @@ pub record IsUnderway (p : Plan) (budget : ℕ) (c : Course) : Type 0 where
 
 -- no Commit comes first, and this link is the least one
 pub record IsNext (p : Plan) (c : Course) (to from : ℕ) : Type 0 where
-  pub open : commits (is_begun c.journal.items) c.world.world ≡ false
+  pub not_due : commits (is_begun c.journal.items) c.world.world ≡ false
   pub link : least_link p c.world.world ≡ Some (to, from)
   pub mail : has_mail c.world to from ≡ true
 
@@ -49,6 +49,10 @@ WentWell (Some outcome.BudgetSpent) = Unit {0}
 WentWell (Some outcome.WriteFault) = ⊥
 WentWell (Some outcome.Memory) = ⊥
 
+-- the counts are those of all that these events have committed
+abbrev pub CountsAll : Plan → Counts → List Event → Type 0
+CountsAll p x j = x ≡ counted_on no_counts (committed p j)
+
 -- what was written and counted while the events grew to these: the lines of what they have committed more, all of them
 -- where it went well, and not all of them where a write failed
 pub record HasWritten (p : Plan) (x y : Counts) (a b : Option (List ℕ)) (old new : List Event) (o : Option Outcome)
@@ -56,7 +60,7 @@ pub record HasWritten (p : Plan) (x y : Counts) (a b : Option (List ℕ)) (old n
   pub entries : List Entry
   pub more : committed p new ≡ committed p old ++ entries
   pub whole : WentWell o → Appends a b (trace_text p entries)
-  pub counts : WentWell o → y ≡ counted_on x entries
+  pub counts : CountsAll p x old → WentWell o → CountsAll p y new
   pub part : AppendsPrefix a b (trace_text p entries)
   pub lacks : o ≡ Some outcome.WriteFault → AppendsPart a b (trace_text p entries)
 

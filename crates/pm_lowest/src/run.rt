@@ -83,9 +83,10 @@ fn open<K: Sink>(
         close(alloc, plan, course, counts, out)?;
         return Err(Outcome::Done);
     };
-    if course.is_due() {
-        close(alloc, plan, course, counts, out)?;
+    if !course.is_due() {
+        return Ok(link);
     }
+    close(alloc, plan, course, counts, out)?;
     Ok(link)
 }
 
