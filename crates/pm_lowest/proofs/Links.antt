@@ -55,8 +55,11 @@ module _ (p : Plan) (v : WorldView) (to from : ℕ) (same : v.plan ≡ p) (l : I
   pub link_has : has_mail v to from ≡ true
   link_has = taken_between (process v.plan to) (process v.plan from) v.world.links l.message l.rest l.first
 
+none_some : (q : ℕ × ℕ) → None ≡ Some q → ⊥
+none_some q e = cc
+
 -- where there is a least link a message is left
 pub link_mail : (p : Plan) (n : ℕ) (w : World) (to from : ℕ) → IsValid p → Reached p n w
     → least_link p w ≡ Some (to, from) → mail w.links ≡ [] → ⊥
 link_mail p n w to from ok reached is none =
-    let e : None ≡ Some (to, from) = sym ((least_link_is p n w ok reached).none none) ∙ is in cc
+    none_some (to, from) (sym ((least_link_is p n w ok reached).none none) ∙ is)

@@ -24,11 +24,11 @@ pub record HasClosed (old new : Course) : Type 0 where
   pub journal : new.journal.items ≡ old.journal.items ++ event.Commit (least_line old.world.world) ∷ []
 
 -- the lowest run with this budget goes on behind its events so far
-pub record IsUnderway (p : Plan) (budget : ℕ) (c : Course) : Type 0 where
+pub record IsUnderway (p : Plan) (most : ℕ) (c : Course) : Type 0 where
   pub plan : c.world.plan ≡ p
-  pub budget : c.budget ≡ budget
+  pub budget : c.budget ≡ most
   pub well : c.world.spoilt ≡ false
-  pub going : Underway budget p c.world.made c.world.world c.journal.items
+  pub going : Underway most p c.world.made c.world.world c.journal.items
 
 -- no Commit comes first, and this link is the least one
 pub record IsNext (p : Plan) (c : Course) (to from : ℕ) : Type 0 where

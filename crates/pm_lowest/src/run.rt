@@ -5,7 +5,7 @@ ghost use Rattle.pm_calm.specs.Lowest.{LowestRun, PartOfLowest, commits, is_begu
 ghost use Rattle.pm_io.specs.Causes.{AppendsPart, AppendsPrefix, Rose};
 ghost use Rattle.pm_kernel.specs.Counts.{counted_on, no_counts};
 ghost use Rattle.pm_kernel.specs.Runs.{IsDone, text_of};
-ghost use Rattle.pm_lowest.specs.Courses.{HasClosed, HasCome, HasWritten, IsNext, IsUnderway, ended};
+ghost use Rattle.pm_lowest.specs.Courses.{HasClosed, HasCome, HasWritten, IsNext, IsUnderway, WentWell, ended};
 ghost use Rattle.pm_lowest.specs.Runs.{IsBudgetSpent};
 ghost use Rattle.pm_plan.specs.Plans.{IsValid};
 ghost use Rattle.pm_sim.specs.Worlds.{committed, mail};
@@ -20,6 +20,7 @@ use std::alloc::Global;
 // Whether all was written; else how the run ended.
 fn unless_failed(wrote: Wrote) -> Result<(), Outcome>
     ensures all { OnOk result (wrote ≡ Wrote.All) }
+    ensures well { WentWell (ended result) → wrote ≡ Wrote.All }
     ensures fault { ended result ≡ Some Outcome.WriteFault → wrote ≡ Wrote.WriteFault }
     ensures failed { (ended result ≡ None) ⊎ ((ended result ≡ Some Outcome.WriteFault) ⊎ (ended result ≡ Some Outcome.Memory)) }
 {
