@@ -1,5 +1,6 @@
 -- One event more, and how far the run then is.
-use Rattle.std.proofs.Common.{◌≡◌, ◌∙◌, ◌⊎◌, ◌+◌, ◌<◌, ◌≤◌, inl, inr, ℕ, suc, Bool, false, true, List, [], ◌∷◌, ◌++◌, Option, Some, None, map, ap, append-nil, arith, refl, subst, sym}
+use Rattle.std.proofs.Common.{◌≡◌, ◌∙◌, ◌⊎◌, ◌+◌, ◌<◌, ◌≤◌, inl, inr, ℕ, suc, Bool, false, true, List, [], ◌∷◌, ◌++◌, Option, Some, None, Result, Ok, Err, map, ap, append-nil, arith, refl, subst, sym}
+use Rattle.std.specs.Result.{IsErrAnd}
 use Rattle.pm_base.specs.Stamps.{least_line_of}
 use Rattle.pm_base.specs.declared.run.Event.{Event}
 use Rattle.pm_base.specs.declared.run.Event.TheVariants as event
@@ -13,7 +14,7 @@ use Rattle.pm_kernel.specs.declared.ran.Outcome.{Outcome}
 use Rattle.pm_kernel.specs.declared.ran.Outcome.TheVariants as outcome
 use Rattle.pm_lowest.proofs.Links.{link_has, link_is, link_mail}
 use Rattle.pm_core.specs.Leasts.{IsLeastLink}
-use Rattle.pm_lowest.specs.Courses.{HasClosed, HasCome, IsNext, IsUnderway}
+use Rattle.pm_lowest.specs.Courses.{HasClosed, HasCome, IsNext, IsUnderway, ended}
 use Rattle.pm_lowest.specs.Runs.{IsBudgetSpent}
 use Rattle.pm_lowest.specs.declared.course.Course.{Course}
 use Rattle.pm_plan.specs.Plans.{IsValid}
@@ -32,16 +33,38 @@ begun_more (x ∷ j) e = refl
 none_end : (w : World) → mail w.links ≡ [] → least_line w ≡ line.End
 none_end w none = ap (λ ms. least_line_of (map mail_stamp ms)) none
 
--- the events that the run with this budget begins with none
-pub come_none : (p : Plan) (b : ℕ) (o : Option Outcome) → (o ≡ Some outcome.Done → ⊥) → (o ≡ Some outcome.BudgetSpent → ⊥)
-    → HasCome p b [] o
-come_none p b o undone unspent = record {
-  part = (_, refl);
-  done_run = λ h. absurd (undone h);
-  done = λ h. absurd (undone h);
-  spent_run = λ h. absurd (unspent h);
-  spent = λ h. absurd (unspent h);
-}
+fault_done : Path (Option Outcome) (Some outcome.WriteFault) (Some outcome.Done) → ⊥
+fault_done e = cc
+
+memory_done : Path (Option Outcome) (Some outcome.Memory) (Some outcome.Done) → ⊥
+memory_done e = cc
+
+fault_spent : Path (Option Outcome) (Some outcome.WriteFault) (Some outcome.BudgetSpent) → ⊥
+fault_spent e = cc
+
+memory_spent : Path (Option Outcome) (Some outcome.Memory) (Some outcome.BudgetSpent) → ⊥
+memory_spent e = cc
+
+none_done : Path (Option Outcome) None (Some outcome.Done) → ⊥
+none_done e = cc
+
+none_spent : Path (Option Outcome) None (Some outcome.BudgetSpent) → ⊥
+none_spent e = cc
+
+-- a run that failed didn't end by itself
+pub undone : (f : Outcome) → (f ≡ outcome.WriteFault) ⊎ (f ≡ outcome.Memory) → Some f ≡ Some outcome.Done → ⊥
+undone f (inl e) h = fault_done (ap (λ z. Some z) (sym e) ∙ h)
+undone f (inr e) h = memory_done (ap (λ z. Some z) (sym e) ∙ h)
+
+pub unspent : (f : Outcome) → (f ≡ outcome.WriteFault) ⊎ (f ≡ outcome.Memory) → Some f ≡ Some outcome.BudgetSpent → ⊥
+unspent f (inl e) h = fault_spent (ap (λ z. Some z) (sym e) ∙ h)
+unspent f (inr e) h = memory_spent (ap (λ z. Some z) (sym e) ∙ h)
+
+-- how a run ended is passed on
+pub passed_on : {T : Type 0} (P : Option Outcome → Type 0) (r : Result T Outcome) (f : Outcome)
+    → IsErrAnd r (λ g. g ≡ f) → P (Some f) → P (ended r)
+passed_on P (Ok x) f e p = absurd e
+passed_on P (Err g) f e p = subst (λ z. P (Some z)) (sym e) p
 
 pub first_underway : (p : Plan) (c : Course) → IsValid p → c.world ≡ first_view p → c.journal.items ≡ []
     → IsUnderway p c.budget c
@@ -79,6 +102,9 @@ module _ (p : Plan) (b : ℕ) (ok : IsValid p) (c : Course) (u : IsUnderway p b 
     spent_run = λ h. absurd (unspent h);
     spent = λ h. absurd (unspent h);
   }
+
+  pub come_goes : HasCome p b j None
+  come_goes = come_still j None refl none_done none_spent
 
   -- ---- the least link
 

@@ -52,6 +52,13 @@ written_none p x a old new o e unfailed = record {
   lacks = λ h. absurd (unfailed h);
 }
 
+none_fault : Path (Option Outcome) None (Some outcome.WriteFault) → ⊥
+none_fault e = cc
+
+-- nothing yet
+pub written_begun : (p : Plan) (x : Counts) (a : Option (List ℕ)) (j : List Event) → HasWritten p x x a a j j None
+written_begun p x a j = written_none p x a j j None refl none_fault
+
 -- these entries were committed, and their lines written or not
 pub written_closed : (p : Plan) (x y : Counts) (a b : Option (List ℕ)) (old new : List Event) (o : Option Outcome)
     (wr : Wrote) (es : List Entry) → committed p new ≡ committed p old ++ es

@@ -1,5 +1,5 @@
 // A lowest run.
-ghost use Rattle.std.specs.Prelude.{ℕ, ◌≡◌, ◌≢◌, ◌⊎◌, ◌≤◌, ◌+◌, suc, [], false, true, None, Some, Ok, IfOk, OnOk};
+ghost use Rattle.std.specs.Prelude.{ℕ, ◌≡◌, ◌≢◌, ◌⊎◌, ◌≤◌, ◌+◌, suc, [], false, true, None, Some, Ok, IfErr, IfOk, OnOk};
 ghost use Rattle.std.specs.Io.KnownBytes.{Appends};
 ghost use Rattle.pm_calm.specs.Lowest.{LowestRun, PartOfLowest, commits, is_begun};
 ghost use Rattle.pm_io.specs.Causes.{AppendsPart, AppendsPrefix, Rose};
@@ -22,7 +22,7 @@ fn unless_failed(wrote: Wrote) -> Result<(), Outcome>
     ensures all { OnOk result (wrote ≡ Wrote.All) }
     ensures well { WentWell (ended result) → wrote ≡ Wrote.All }
     ensures fault { ended result ≡ Some Outcome.WriteFault → wrote ≡ Wrote.WriteFault }
-    ensures failed { (ended result ≡ None) ⊎ ((ended result ≡ Some Outcome.WriteFault) ⊎ (ended result ≡ Some Outcome.Memory)) }
+    ensures failed { IfErr result (λ o. (o ≡ Outcome.WriteFault) ⊎ (o ≡ Outcome.Memory)) }
 {
     match wrote {
         Wrote::All => Ok(()),
@@ -43,7 +43,7 @@ fn close<K: Sink>(
     requires underway { IsUnderway plan.now course.old.budget course.old }
     ensures closed { OnOk result (HasClosed course.old course.new) }
     ensures some { (course.new.journal.items ≡ course.old.journal.items) ⊎ HasClosed course.old course.new }
-    ensures failed { (ended result ≡ None) ⊎ ((ended result ≡ Some Outcome.WriteFault) ⊎ (ended result ≡ Some Outcome.Memory)) }
+    ensures failed { IfErr result (λ o. (o ≡ Outcome.WriteFault) ⊎ (o ≡ Outcome.Memory)) }
     ensures written { HasWritten plan.now counts.old counts.new (K.holds out.old) (K.holds out.new)
         course.old.journal.items course.new.journal.items (ended result) }
     ensures budget { course.new.budget ≡ course.old.budget }
