@@ -6,6 +6,7 @@ use Rattle.std.proofs.lemmas.List.{take_at}
 use Rattle.std.specs.Io.KnownBytes.{Appends}
 use Rattle.pm_base.specs.declared.rows.Entry.{Entry}
 use Rattle.pm_base.specs.declared.run.Event.{Event}
+use Rattle.pm_base.specs.declared.stamp.Line.TheVariants as the_line
 use Rattle.pm_io.specs.Causes.{AppendsPart, AppendsPrefix}
 use Rattle.pm_io.proofs.Known.{appends-append, prefix-all, prefix-part}
 use Rattle.pm_kernel.specs.Counts.{counted, counted_on, no_counts}
@@ -14,7 +15,7 @@ use Rattle.pm_kernel.specs.Runs.{IsDone, IsJournal, IsSpent, left_by, text_of}
 use Rattle.pm_kernel.specs.declared.ran.Outcome.{Outcome}
 use Rattle.pm_kernel.specs.declared.ran.Outcome.TheVariants as outcome
 use Rattle.pm_model.proofs.Below.{run-cut, run-short}
-use Rattle.pm_model.specs.Entries.{IsCutAt}
+use Rattle.pm_model.specs.Entries.{IsCutAt, run_below}
 use Rattle.pm_model.specs.Runs.{sequential_run}
 use Rattle.pm_model.specs.Traces.{end_line, line, trace_text}
 use Rattle.pm_plan.proofs.Valid.{valid_limits}
@@ -26,7 +27,8 @@ use Rattle.pm_sim.specs.Worlds.{committed}
 use Rattle.pm_top.proofs.Written.{end-some, part-after}
 use Rattle.pm_top.specs.Endings.{ending_of}
 use Rattle.pm_top.specs.Outputs.{asked_lines, run_output}
-use Rattle.pm_top.specs.Printed.{IsRunPrinted, StaysCommitted}
+use Rattle.pm_top.specs.Printed.{IsRunPrinted, LacksCommitted, PrintsCommitted}
+use Rattle.pm_top.specs.declared.outcome.Ending.{Ending}
 use Rattle.pm_top.specs.declared.outcome.Ending.TheVariants as ending
 use Rattle.pm_words.specs.declared.settings.Settings.{Settings}
 
@@ -45,19 +47,25 @@ count-is xs few =
     let plain : 0 + length xs ≡ length xs = omega arith in
     ap counted plain ∙ min-eq_left (omega (arith, few))
 
-module _ (s : Settings) (p : Plan) (j : List Event) (valid : IsValid p) (is : IsJournal p s.run j) where
-  tells : JournalLaw p j
-  tells = journal_law p s.run.epoch (made j) j valid is.journal
+-- what out grew by in a run with this journal
+pub record IsWritten (s : Settings) (p : Plan) (e : Ending) (j : List Event) (old new : Option (List ℕ)) : Type 0 where
+  pub done : e ≡ ending.Done → IsDone p j
+  pub whole : e ≡ ending.Done → Appends old new (run_output s.journal p j)
+  pub spent : e ≡ ending.BudgetSpent → IsSpent p s.run j
+  pub lines : e ≡ ending.BudgetSpent → Appends old new (text_of p j)
+  pub part : PrintsCommitted s p j old new
+  pub unfinished : e ≢ ending.Done → AppendsPart old new (run_output s.journal p j)
+  pub lacks : e ≡ ending.WriteFault → LacksCommitted s p j old new
 
+module _ (s : Settings) (p : Plan) (j : List Event) (valid : IsValid p)
+    (sequential : committed p j ≡ run_below p (left_by p j).line)
+    (all : (left_by p j).line ≡ the_line.End → committed p j ≡ sequential_run p) where
   cut : IsCutAt p (left_by p j).line
   cut = run-cut p (left_by p j).line (valid_limits p valid)
 
-  stays : StaysCommitted p j
-  stays k rest e = (_, tells.stays k rest e)
-
   -- the run is what was committed, and what is left of it
   parts : sequential_run p ≡ committed p j ++ cut.left
-  parts = cut.parts ∙ ap (λ es. es ++ cut.left) (sym tells.sequential)
+  parts = cut.parts ∙ ap (λ es. es ++ cut.left) (sym sequential)
 
   -- what follows the lines of what was committed
   behind : List ℕ
@@ -83,11 +91,8 @@ module _ (s : Settings) (p : Plan) (j : List Event) (valid : IsValid p) (is : Is
   short : (old new : Option (List ℕ)) → AppendsPrefix old new (text_of p j) → AppendsPart old new (run_output s.journal p j)
   short old new a = rw output-is (prefix-short old new (text_of p j) behind a behind-some)
 
-  pub ran-spent : (old new : Option (List ℕ)) → IsSpent p s.run j → Appends old new (text_of p j) → IsRunPrinted s p ending.BudgetSpent j old new
-  ran-spent old new spent a = record {
-    journal = is;
-    sequential = tells.sequential;
-    stays = stays;
+  wrote-spent : (old new : Option (List ℕ)) → IsSpent p s.run j → Appends old new (text_of p j) → IsWritten s p ending.BudgetSpent j old new
+  wrote-spent old new spent a = record {
     done = λ h. absurd (cc h);
     whole = λ h. absurd (cc h);
     spent = λ _. spent;
@@ -97,11 +102,8 @@ module _ (s : Settings) (p : Plan) (j : List Event) (valid : IsValid p) (is : Is
     lacks = λ h. absurd (cc h);
   }
 
-  pub ran-fault : (old new : Option (List ℕ)) → AppendsPart old new (text_of p j) → IsRunPrinted s p ending.WriteFault j old new
-  ran-fault old new a = record {
-    journal = is;
-    sequential = tells.sequential;
-    stays = stays;
+  wrote-fault : (old new : Option (List ℕ)) → AppendsPart old new (text_of p j) → IsWritten s p ending.WriteFault j old new
+  wrote-fault old new a = record {
     done = λ h. absurd (cc h);
     whole = λ h. absurd (cc h);
     spent = λ h. absurd (cc h);
@@ -111,11 +113,8 @@ module _ (s : Settings) (p : Plan) (j : List Event) (valid : IsValid p) (is : Is
     lacks = λ _. inl a;
   }
 
-  pub ran-memory : (old new : Option (List ℕ)) → AppendsPrefix old new (text_of p j) → IsRunPrinted s p ending.Memory j old new
-  ran-memory old new a = record {
-    journal = is;
-    sequential = tells.sequential;
-    stays = stays;
+  wrote-memory : (old new : Option (List ℕ)) → AppendsPrefix old new (text_of p j) → IsWritten s p ending.Memory j old new
+  wrote-memory old new a = record {
     done = λ h. absurd (cc h);
     whole = λ h. absurd (cc h);
     spent = λ h. absurd (cc h);
@@ -125,23 +124,23 @@ module _ (s : Settings) (p : Plan) (j : List Event) (valid : IsValid p) (is : Is
     lacks = λ h. absurd (cc h);
   }
 
-  pub ran-stopped : (old new : Option (List ℕ)) (o : Outcome) → o ≢ outcome.Done → (o ≡ outcome.BudgetSpent → IsSpent p s.run j)
+  pub wrote-stopped : (old new : Option (List ℕ)) (o : Outcome) → o ≢ outcome.Done → (o ≡ outcome.BudgetSpent → IsSpent p s.run j)
       → ((o ≡ outcome.Done) ⊎ (o ≡ outcome.BudgetSpent) → Appends old new (text_of p j))
       → (o ≡ outcome.WriteFault → AppendsPart old new (text_of p j))
-      → AppendsPrefix old new (text_of p j) → IsRunPrinted s p (ending_of o) j old new
-  ran-stopped old new outcome.Done undone spent whole lacks part = absurd (undone refl)
-  ran-stopped old new outcome.BudgetSpent undone spent whole lacks part = ran-spent old new (spent refl) (whole (inr refl))
-  ran-stopped old new outcome.WriteFault undone spent whole lacks part = ran-fault old new (lacks refl)
-  ran-stopped old new outcome.Memory undone spent whole lacks part = ran-memory old new part
+      → AppendsPrefix old new (text_of p j) → IsWritten s p (ending_of o) j old new
+  wrote-stopped old new outcome.Done undone spent whole lacks part = absurd (undone refl)
+  wrote-stopped old new outcome.BudgetSpent undone spent whole lacks part = wrote-spent old new (spent refl) (whole (inr refl))
+  wrote-stopped old new outcome.WriteFault undone spent whole lacks part = wrote-fault old new (lacks refl)
+  wrote-stopped old new outcome.Memory undone spent whole lacks part = wrote-memory old new part
 
   -- where all is committed, the output is the lines of it, the end line with their number and the journal's lines
   end-is : (c : Counts) → IsDone p j → c ≡ counted_on no_counts (committed p j)
       → run_output s.journal p j ≡ text_of p j ++ (end_line c.steps ++ asked_lines s.journal j)
   end-is c done e =
-      let all : committed p j ≡ sequential_run p = tells.done_all done.line in
-      let few : length (committed p j) < 2 ^ 64 = subst (λ es. length es < 2 ^ 64) (sym all) (run-short p (valid_limits p valid)) in
-      let count : c.steps ≡ length (sequential_run p) = ap (λ (d : Counts). d.steps) e ∙ count-is (committed p j) few ∙ ap length all in
-      ap (λ es. (trace_text p es ++ end_line (length (sequential_run p))) ++ asked_lines s.journal j) (sym all)
+      let same : committed p j ≡ sequential_run p = all done.line in
+      let few : length (committed p j) < 2 ^ 64 = subst (λ es. length es < 2 ^ 64) (sym same) (run-short p (valid_limits p valid)) in
+      let count : c.steps ≡ length (sequential_run p) = ap (λ (d : Counts). d.steps) e ∙ count-is (committed p j) few ∙ ap length same in
+      ap (λ es. (trace_text p es ++ end_line (length (sequential_run p))) ++ asked_lines s.journal j) (sym same)
       ∙ ap (λ n. (text_of p j ++ end_line n) ++ asked_lines s.journal j) (sym count)
       ∙ append_assoc (text_of p j) (end_line c.steps) (asked_lines s.journal j)
 
@@ -153,14 +152,11 @@ module _ (s : Settings) (p : Plan) (j : List Event) (valid : IsValid p) (is : Is
     lacking : AppendsPart now new (end_line c.steps ++ asked_lines s.journal j) → AppendsPart old new (run_output s.journal p j)
     lacking a = rw (end-is c done count) (part-after old now new (text_of p j) (end_line c.steps ++ asked_lines s.journal j) grew a)
 
-    pub ran-done : (o : Outcome) → o ≢ outcome.BudgetSpent
+    pub wrote-done : (o : Outcome) → o ≢ outcome.BudgetSpent
         → (o ≡ outcome.Done → Appends now new (end_line c.steps ++ asked_lines s.journal j))
         → (o ≢ outcome.Done → AppendsPart now new (end_line c.steps ++ asked_lines s.journal j))
-        → IsRunPrinted s p (ending_of o) j old new
-    ran-done outcome.Done unspent all some = record {
-      journal = is;
-      sequential = tells.sequential;
-      stays = stays;
+        → IsWritten s p (ending_of o) j old new
+    wrote-done outcome.Done unspent all some = record {
       done = λ _. done;
       whole = λ _. whole (all refl);
       spent = λ h. absurd (cc h);
@@ -169,13 +165,10 @@ module _ (s : Settings) (p : Plan) (j : List Event) (valid : IsValid p) (is : Is
       unfinished = λ h. absurd (h refl);
       lacks = λ h. absurd (cc h);
     }
-    ran-done outcome.BudgetSpent unspent all some = absurd (unspent refl)
-    ran-done outcome.WriteFault unspent all some =
+    wrote-done outcome.BudgetSpent unspent all some = absurd (unspent refl)
+    wrote-done outcome.WriteFault unspent all some =
         let part : AppendsPart old new (run_output s.journal p j) = lacking (some (λ h. cc h)) in
         record {
-          journal = is;
-          sequential = tells.sequential;
-          stays = stays;
           done = λ h. absurd (cc h);
           whole = λ h. absurd (cc h);
           spent = λ h. absurd (cc h);
@@ -184,12 +177,9 @@ module _ (s : Settings) (p : Plan) (j : List Event) (valid : IsValid p) (is : Is
           unfinished = λ _. part;
           lacks = λ _. inr (done.line, part);
         }
-    ran-done outcome.Memory unspent all some =
+    wrote-done outcome.Memory unspent all some =
         let part : AppendsPart old new (run_output s.journal p j) = lacking (some (λ h. cc h)) in
         record {
-          journal = is;
-          sequential = tells.sequential;
-          stays = stays;
           done = λ h. absurd (cc h);
           whole = λ h. absurd (cc h);
           spent = λ h. absurd (cc h);
@@ -198,3 +188,37 @@ module _ (s : Settings) (p : Plan) (j : List Event) (valid : IsValid p) (is : Is
           unfinished = λ _. part;
           lacks = λ h. absurd (cc h);
         }
+
+-- an optimistic run's journal committed the sequential run below its line, and that stays
+module _ (s : Settings) (p : Plan) (j : List Event) (valid : IsValid p) (is : IsJournal p s.run j) where
+  tells : JournalLaw p j
+  tells = journal_law p s.run.epoch (made j) j valid is.journal
+
+  ran : (e : Ending) (old new : Option (List ℕ)) → IsWritten s p e j old new → IsRunPrinted s p e j old new
+  ran e old new w = record {
+    journal = is;
+    sequential = tells.sequential;
+    stays = λ k rest h. (_, tells.stays k rest h);
+    done = w.done;
+    whole = w.whole;
+    spent = w.spent;
+    lines = w.lines;
+    part = w.part;
+    unfinished = w.unfinished;
+    lacks = w.lacks;
+  }
+
+  pub ran-stopped : (old new : Option (List ℕ)) (o : Outcome) → o ≢ outcome.Done → (o ≡ outcome.BudgetSpent → IsSpent p s.run j)
+      → ((o ≡ outcome.Done) ⊎ (o ≡ outcome.BudgetSpent) → Appends old new (text_of p j))
+      → (o ≡ outcome.WriteFault → AppendsPart old new (text_of p j))
+      → AppendsPrefix old new (text_of p j) → IsRunPrinted s p (ending_of o) j old new
+  ran-stopped old new o undone spent whole lacks part =
+      ran (ending_of o) old new (wrote-stopped s p j valid tells.sequential tells.done_all old new o undone spent whole lacks part)
+
+  pub ran-done : (c : Counts) (old now new : Option (List ℕ)) → IsDone p j → Appends old now (text_of p j)
+      → c ≡ counted_on no_counts (committed p j) → (o : Outcome) → o ≢ outcome.BudgetSpent
+      → (o ≡ outcome.Done → Appends now new (end_line c.steps ++ asked_lines s.journal j))
+      → (o ≢ outcome.Done → AppendsPart now new (end_line c.steps ++ asked_lines s.journal j))
+      → IsRunPrinted s p (ending_of o) j old new
+  ran-done c old now new done grew count o unspent full some = ran (ending_of o) old new
+      (wrote-done s p j valid tells.sequential tells.done_all c old now new done grew count o unspent full some)

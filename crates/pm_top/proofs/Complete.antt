@@ -2,6 +2,8 @@
 use Rattle.std.proofs.Common.{◌≡◌, ◌≢◌, ◌⊎◌, inl, inr, ℕ, ◌≤◌, List, length, Option, Some, None, IfSome, Result, Ok, Err, refl, sym, ap, ◌∙◌, arith, Bool, true, false}
 use Rattle.pm_plan.specs.declared.plan.Plan.{Plan}
 use Rattle.pm_base.specs.declared.run.Event.{Event}
+use Rattle.pm_kernel.specs.Runs.{left_by}
+use Rattle.pm_sim.specs.Worlds.{mail}
 use Rattle.pm_top.specs.Endings.{Accepts}
 use Rattle.pm_top.specs.Headline.{Completes, HasBudget, IsEnough, IsWithin, given_where}
 use Rattle.pm_top.specs.Printed.{PrintedIn, PrintedWhere}
@@ -115,6 +117,8 @@ spent-in mode.Upgrade s b p j old new budget a enough = budget
 spent-in mode.Place s b p j old new budget a enough = omega (arith, a.more refl, enough)
 spent-in mode.Cut s b p j old new budget a enough = ok-cut enough.0 _ (sym enough.1 ∙ a.spent refl)
 spent-in mode.Replay s b p j old new budget a enough = budget
+spent-in mode.Lowest s b p j old new budget a enough =
+    (a.spent refl).more (ap (λ k. mail (left_by p k).links) (a.lowest (inr refl)) ∙ enough)
 
 -- nor is an agent retired
 retired-in : (m : Mode) (s : Settings) (b : List ℕ) (p : Plan) (j : List Event) (old new : Option (List ℕ)) (agent : ℕ) → m ≡ mode.Cut
@@ -127,6 +131,7 @@ retired-in mode.Upgrade s b p j old new agent h a enough = cc h
 retired-in mode.Place s b p j old new agent h a enough = cc h
 retired-in mode.Cut s b p j old new agent h a enough = ok-cut enough.0 _ (sym enough.1 ∙ a.retired agent refl)
 retired-in mode.Replay s b p j old new agent h a enough = enough
+retired-in mode.Lowest s b p j old new agent h a enough = cc h
 
 -- nor is a journal's line illegal
 illegal-in : (m : Mode) (s : Settings) (p : Plan) → m ≡ mode.Replay → IsEnough m s p → ⊥
@@ -138,6 +143,7 @@ illegal-in mode.Upgrade s p h enough = cc h
 illegal-in mode.Place s p h enough = cc h
 illegal-in mode.Cut s p h enough = cc h
 illegal-in mode.Replay s p h enough = enough
+illegal-in mode.Lowest s p h enough = cc h
 
 -- what is known of the endings that not every mode has
 pub record Kinds (m : Mode) (e : Ending) : Type 0 where

@@ -55,6 +55,7 @@ longer-scenario mode.Upgrade xs ys many long = omega (arith, long, length-append
 longer-scenario mode.Place xs ys many long = omega (arith, long, length-append xs ys)
 longer-scenario mode.Cut xs ys many long = omega (arith, long, length-append xs ys)
 longer-scenario mode.Replay xs ys many long = (replayed xs ys many).long long
+longer-scenario mode.Lowest xs ys many long = omega (arith, long, length-append xs ys)
 
 pub shorter-scenario : (m : Mode) (xs ys : List ℕ) → longest m < length xs → length (scenario_in m xs) ≤ 4194304 → length (scenario_in m (xs ++ ys)) ≤ 4194304
 shorter-scenario mode.Seq xs ys many few = absurd (omega (arith, many, few))
@@ -65,3 +66,4 @@ shorter-scenario mode.Upgrade xs ys many few = absurd (omega (arith, many, few))
 shorter-scenario mode.Place xs ys many few = absurd (omega (arith, many, few))
 shorter-scenario mode.Cut xs ys many few = absurd (omega (arith, many, few))
 shorter-scenario mode.Replay xs ys many few = omega (arith, (replayed xs ys many).short few, few)
+shorter-scenario mode.Lowest xs ys many few = absurd (omega (arith, many, few))

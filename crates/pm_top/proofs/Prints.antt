@@ -7,6 +7,7 @@ use Rattle.pm_base.specs.declared.rows.Entry.{Entry}
 use Rattle.pm_base.specs.declared.run.Event.{Event}
 use Rattle.pm_base.specs.declared.stamp.Stamp.{Stamp}
 use Rattle.pm_base.specs.declared.run.RunSettings.{RunSettings}
+use Rattle.pm_calm.specs.Lowest.{lowest}
 use Rattle.pm_io.proofs.Known.{prefix-none, consumes-all}
 use Rattle.pm_kernel.specs.Runs.{BeginsClosed, IsJournal, text_of}
 use Rattle.pm_model.specs.Entries.{run_below}
@@ -86,6 +87,10 @@ never-told : (e : Ending) → Quits e → (e ≡ ending.Done) ⊎ (e ≡ ending.
 never-told e q (inl h) = q.done h
 never-told e q (inr h) = q.fault h
 
+never-alone : (e : Ending) → Quits e → (e ≡ ending.Done) ⊎ (e ≡ ending.BudgetSpent) → ⊥
+never-alone e q (inl h) = q.done h
+never-alone e q (inr h) = q.spent h
+
 pub text-none : (IsText : List ℕ → Type 0) (e : Ending) (old : Option (List ℕ)) → Quits e → IsTextPrinted IsText e old old
 text-none IsText e old q = record {
   done = λ h. absurd (q.done h);
@@ -150,6 +155,22 @@ none-in mode.Replay s b p e old q = record {
   nothing = λ line h. absurd (q.illegal line h);
   fault = λ h. absurd (q.fault h);
   memory = λ _. inl refl;
+}
+none-in mode.Lowest s b p e old q = record {
+  journal = (lowest s.run.budget p, refl);
+  lowest = λ h. absurd (never-alone e q h);
+  legal = refl;
+  few = omega arith;
+  calm = λ h. absurd (h refl);
+  sequential = run-below-first p;
+  stays = stays-none p;
+  done = λ h. absurd (q.done h);
+  whole = λ h. absurd (q.done h);
+  spent = λ h. absurd (q.spent h);
+  lines = λ h. absurd (q.spent h);
+  part = inl (prefix-none old (text_of p []));
+  unfinished = λ _. part-none old (run_output s.journal p []) (run-some s.journal p []);
+  lacks = λ h. absurd (q.fault h);
 }
 
 none-of : {F : Type 0} (s : Settings) (b : List ℕ) (o : Result Plan F) (e : Ending) (old : Option (List ℕ)) → Quits e → IfOk o (λ p. PrintedIn s.mode s b p e [] old old)

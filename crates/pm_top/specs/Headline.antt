@@ -3,12 +3,15 @@ use Rattle.std.specs.Prelude.{◌≡◌, ◌≢◌, ◌⊎◌, ℕ, ◌<◌, ◌
 use Rattle.std.specs.Prelude.{List, [], length, Option, None, IfSome, Ok, Err}
 use Rattle.std.specs.Io.KnownBytes.{Appends, IsAtEnd}
 use Rattle.pm_base.specs.declared.run.Event.{Event}
+use Rattle.pm_calm.specs.Lowest.{lowest}
 use Rattle.pm_io.specs.Causes.{AppendsPrefix, Rose}
+use Rattle.pm_kernel.specs.Runs.{left_by}
 use Rattle.pm_model.specs.Runs.{sequential_run}
 use Rattle.pm_plan.specs.declared.plan.Plan.{Plan}
 use Rattle.pm_resume.specs.Cuts.{cut_of}
 use Rattle.pm_scenario.specs.Scenarios.{plan_of}
 use Rattle.pm_scenario.specs.declared.fault.ScenarioFault.{ScenarioFault}
+use Rattle.pm_sim.specs.Worlds.{mail}
 use Rattle.pm_top.specs.Endings.{Accepts, error_line}
 use Rattle.pm_top.specs.Printed.{PrintedOf}
 use Rattle.pm_top.specs.Readings.{IsAccepted, IsLongInput, IsLongScenario, IsRefused, IsTakenAtMost, IsUnfit, longest}
@@ -21,8 +24,8 @@ use Rattle.pm_words.specs.declared.settings.Mode.TheVariants as mode
 use Rattle.pm_words.specs.declared.settings.Settings.{Settings}
 
 -- a plan of which the mode's work ends within the budget: in modes `seq` and `place` one of at most as many steps, in
--- modes `check` and `upgrade` each, in mode `cut` one that can be cut; in modes `run` and `demo` no budget is said to be
--- enough, and in mode `replay` a journal may be illegal
+-- modes `check` and `upgrade` each, in mode `cut` one that can be cut, in mode `lowest` one whose lowest run leaves no
+-- message; in modes `run` and `demo` no budget is said to be enough, and in mode `replay` a journal may be illegal
 abbrev pub IsEnough : Mode → Settings → Plan → Type 0
 IsEnough mode.Seq s p = length (sequential_run p) ≤ s.run.budget
 IsEnough mode.Check s p = Unit {0}
@@ -31,6 +34,7 @@ IsEnough mode.Demo s p = ⊥
 IsEnough mode.Upgrade s p = Unit {0}
 IsEnough mode.Place s p = length (sequential_run p) ≤ s.run.budget
 IsEnough mode.Replay s p = ⊥
+IsEnough mode.Lowest s p = mail (left_by p (lowest s.run.budget p)).links ≡ []
 IsEnough mode.Cut s p = (q : Plan) × (cut_of p s.from s.run.budget ≡ Ok q)
 
 -- the mode's work can spend a budget
@@ -40,11 +44,12 @@ HasBudget mode.Upgrade = ⊥
 HasBudget mode.Replay = ⊥
 HasBudget _ = Unit {0}
 
--- the mode has an optimistic run, which the journal tells
+-- the mode has a run of the core, which the journal tells
 abbrev pub HasRun : Mode → Type 0
 HasRun mode.Run = Unit {0}
 HasRun mode.Demo = Unit {0}
 HasRun mode.Replay = Unit {0}
+HasRun mode.Lowest = Unit {0}
 HasRun _ = ⊥
 
 -- a scenario of which the mode's work ends within the budget
@@ -122,7 +127,7 @@ pub record Call : Type 0 where
   pub err : SinkSight
   pub err_after : SinkSight
 
--- the journal is empty in the modes that have no optimistic run, at each ending that writes nothing, and of a text that
+-- the journal is empty in the modes that have no such run, at each ending that writes nothing, and of a text that
 -- is refused or too long
 pub record HasJournal (c : Call) : Type 0 where
   pub runs : IfSome c.settings (λ s. (HasRun s.mode → ⊥) → c.journal ≡ [])

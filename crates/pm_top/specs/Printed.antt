@@ -4,6 +4,8 @@ use Rattle.std.specs.Io.KnownBytes.{Appends}
 use Rattle.pm_base.specs.declared.rows.Entry.{Entry}
 use Rattle.pm_base.specs.declared.run.Event.{Event}
 use Rattle.pm_base.specs.declared.stamp.Line.TheVariants as line
+use Rattle.pm_calm.specs.Calm.{IsCalm}
+use Rattle.pm_calm.specs.Lowest.{LowestRun, PartOfLowest}
 use Rattle.pm_io.specs.Causes.{AppendsPart, AppendsPrefix}
 use Rattle.pm_kernel.specs.Runs.{IsDone, IsJournal, IsSpent, left_by, text_of}
 use Rattle.pm_model.specs.Entries.{run_below}
@@ -18,7 +20,8 @@ use Rattle.pm_replay.specs.Replays.{IsFirstIllegal, IsLegalText, is_end}
 use Rattle.pm_resume.specs.Cuts.{cut_of, run_from}
 use Rattle.pm_resume.specs.declared.CutFault.TheVariants as fault
 use Rattle.pm_scenario.specs.Scenarios.{plan_of}
-use Rattle.pm_sim.specs.Worlds.{committed}
+use Rattle.pm_sim.specs.Journals.{made}
+use Rattle.pm_sim.specs.Worlds.{committed, first_world, is_legal_run}
 use Rattle.pm_top.specs.Demo.{demo_line, generated_plan}
 use Rattle.pm_top.specs.Endings.{Accepts}
 use Rattle.pm_top.specs.Outputs.{check_line, first_lines, run_output}
@@ -162,6 +165,26 @@ pub record IsReplayPrinted (p : Plan) (t : List ℕ) (e : Ending) (j : List Even
   pub memory : e ≡ ending.Memory
       → (new ≡ old) ⊎ ((k : List Event) × IsLegalText p k t × AppendsPart old new (replay_text p k))
 
+-- what the lowest run of a plan came to. Where it ended by itself its journal is the lowest run with this budget, else one
+-- that this begins with: a legal run in which nothing is rolled back, each Commit at the least line; and what it committed
+-- is the sequential run below its line. What out grew by is as in mode `run`.
+pub record IsLowestPrinted (s : Settings) (p : Plan) (e : Ending) (j : List Event) (old new : Option (List ℕ))
+    : Type 0 where
+  pub journal : PartOfLowest s.run.budget p j
+  pub lowest : (e ≡ ending.Done) ⊎ (e ≡ ending.BudgetSpent) → LowestRun s.run.budget p j
+  pub legal : is_legal_run p (first_world p) j ≡ true
+  pub few : made j ≤ s.run.budget
+  pub calm : (j ≡ [] → ⊥) → IsCalm p (first_world p) j
+  pub sequential : committed p j ≡ run_below p (left_by p j).line
+  pub stays : StaysCommitted p j
+  pub done : e ≡ ending.Done → IsDone p j
+  pub whole : e ≡ ending.Done → Appends old new (run_output s.journal p j)
+  pub spent : e ≡ ending.BudgetSpent → IsSpent p s.run j
+  pub lines : e ≡ ending.BudgetSpent → Appends old new (text_of p j)
+  pub part : PrintsCommitted s p j old new
+  pub unfinished : e ≢ ending.Done → AppendsPart old new (run_output s.journal p j)
+  pub lacks : e ≡ ending.WriteFault → LacksCommitted s p j old new
+
 -- what was written of a plan in this mode, where the input held these bytes
 abbrev pub PrintedIn : Mode → Settings → List ℕ → Plan → Ending → List Event → Option (List ℕ) → Option (List ℕ) → Type 0
 PrintedIn mode.Seq s b p e j old new = IsSeqPrinted s.run.budget p e old new
@@ -172,6 +195,7 @@ PrintedIn mode.Upgrade s b p e j old new = IsUpgradePrinted p e old new
 PrintedIn mode.Place s b p e j old new = IsPlacePrinted s.run.budget p e old new
 PrintedIn mode.Cut s b p e j old new = IsCutPrinted s p e old new
 PrintedIn mode.Replay s b p e j old new = IsReplayPrinted p (journal_part b) e j old new
+PrintedIn mode.Lowest s b p e j old new = IsLowestPrinted s p e j old new
 
 -- the same of the plan that there is: of the one in the input, or where the input isn't read of the generated one
 abbrev pub PrintedWhere : Bool → Settings → Option (List ℕ) → Ending → List Event → Option (List ℕ) → Option (List ℕ)

@@ -4,6 +4,7 @@
 mod check;
 mod demo;
 mod laws;
+mod lowest;
 mod makers;
 mod optimistic;
 mod outcome;

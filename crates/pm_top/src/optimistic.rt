@@ -88,7 +88,7 @@ fn write_asked<K: Sink>(alloc: Global, asked: bool, journal: &Journal, out: &mut
 }
 
 /// Writes the end line, and behind it the journal's lines where they are asked for.
-fn write_rest<K: Sink>(
+pub fn write_rest<K: Sink>(
     alloc: Global,
     steps: u64,
     asked: bool,

@@ -18,6 +18,7 @@ ghost use Rattle.pm_words.specs.Words.{reads, settings_of};
 
 use crate::check::write_check;
 use crate::demo::write_demo;
+use crate::lowest::write_lowest;
 use crate::makers::Makers;
 use crate::optimistic::write_optimistic;
 use crate::outcome::{Ending, offer, status_of};
@@ -48,7 +49,7 @@ pub struct Report {
     pub status: u8,
     /// Why it is that status.
     pub ending: Ending,
-    /// The events of the optimistic run, up to its last Commit; the modes that make none have an empty one.
+    /// The events of the run: of the optimistic one up to its last Commit; the modes that make none have an empty one.
     pub journal: Journal,
 }
 
@@ -123,6 +124,13 @@ fn write_output<
         Mode::Place => still(alloc, write_place(alloc, plan, settings.run.budget, out)),
         Mode::Cut => still(alloc, write_cut(alloc, plan, settings, out)),
         Mode::Replay => write_replay(alloc, plan, parts(bytes).1, out),
+        Mode::Lowest => {
+            let ran = write_lowest(alloc, plan, settings, out);
+            Worked {
+                ending: ending_of(ran.outcome),
+                journal: ran.journal,
+            }
+        }
     }
 }
 
@@ -350,11 +358,12 @@ fn serve<
 
 /// All that the program does. `words` are those after the program's name, as `pm_words` reads them: the mode `seq`, for
 /// the sequential run of the scenario that `input` holds; `run`, for the optimistic run of it, which prints the same
-/// trace; `check`, for how many parts it has; `upgrade`, for the scenario in the present form; `place`, for where its
-/// variables are best kept; `cut`, for the scenario whose run is the rest of its run from a time on; or `demo`, for the
-/// optimistic run of a generated scenario, in one line, for which the input isn't read. A run's trace is written to `out`,
-/// each line by itself, for as many steps, in modes `run` and `demo` deliveries, as the option `budget` says; at each ending
-/// but `Done` the line of that ending is offered to `err`. Modes `run` and `demo` are made by at most as many workers as the
+/// trace; `lowest`, for the run of it that never rolls back, which prints the same trace; `check`, for how many parts it
+/// has; `upgrade`, for the scenario in the present form; `place`, for where its variables are best kept; `cut`, for the
+/// scenario whose run is the rest of its run from a time on; `replay`, for what a journal behind the scenario commits; or
+/// `demo`, for the optimistic run of a generated scenario, in one line, for which the input isn't read. A run's trace is
+/// written to `out`, each line by itself, for as many steps, in modes `run`, `lowest` and `demo` deliveries, as the option
+/// `budget` says; at each ending but `Done` the line of that ending is offered to `err`. Modes `run` and `demo` are made by at most as many workers as the
 /// option `workers` says, which ask `gate` before each of their turns: the first is the calling thread, each other has a
 /// thread of its own and is waited for. With no worker, and in each other mode, nothing asks `gate`.
 pub fn top<R: Threads + Sync, S: Source, K: Sink, E: Sink, G: Gate + Sync>(

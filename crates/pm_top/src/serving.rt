@@ -13,7 +13,13 @@ fn is_shared(mode: Mode) -> bool
 {
     match mode {
         Mode::Run | Mode::Demo => true,
-        Mode::Seq | Mode::Check | Mode::Upgrade | Mode::Place | Mode::Cut | Mode::Replay => false,
+        Mode::Seq
+        | Mode::Check
+        | Mode::Upgrade
+        | Mode::Place
+        | Mode::Cut
+        | Mode::Replay
+        | Mode::Lowest => false,
     }
 }
 

@@ -37,6 +37,11 @@ pub replay : settings_of (codes "replay" ∷ []) ≡ Some (record usual { mode =
 unfolding settings_of parts_from mode_named
 replay = refl
 
+pub lowest : settings_of (codes "lowest" ∷ codes "--budget=9" ∷ []) ≡
+    Some (record usual { mode = mode.Lowest; run = record usual_run { budget = 9 } })
+unfolding settings_of parts_from mode_named
+lowest = refl
+
 pub option_before : settings_of (codes "--workers=2" ∷ codes "seq" ∷ []) ≡
     Some (record usual { run = record usual_run { workers = 2 } })
 unfolding settings_of parts_from mode_named

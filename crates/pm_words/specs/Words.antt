@@ -73,7 +73,8 @@ mode_named word = cond (bytes_eq word (codes "seq")) (Some mode.Seq)
     (cond (bytes_eq word (codes "place")) (Some mode.Place)
     (cond (bytes_eq word (codes "cut")) (Some mode.Cut)
     (cond (bytes_eq word (codes "replay")) (Some mode.Replay)
-    None)))))))
+    (cond (bytes_eq word (codes "lowest")) (Some mode.Lowest)
+    None))))))))
 
 -- the mode reads the input; only the generated scenario comes of a number alone
 abbrev pub reads : Mode → Bool

@@ -18,6 +18,8 @@ pub fn worked_words()
     ensures place { settings_of (codes "place" ∷ []) ≡ Some (record usual { mode = mode.Place }) }
     ensures cut { settings_of (codes "cut" ∷ codes "--from=2" ∷ []) ≡ Some (record usual { mode = mode.Cut; from = 2 }) }
     ensures replay { settings_of (codes "replay" ∷ []) ≡ Some (record usual { mode = mode.Replay }) }
+    ensures lowest { settings_of (codes "lowest" ∷ codes "--budget=9" ∷ []) ≡
+        Some (record usual { mode = mode.Lowest; run = record usual_run { budget = 9 } }) }
     ensures option_before { settings_of (codes "--workers=2" ∷ codes "seq" ∷ []) ≡
         Some (record usual { run = record usual_run { workers = 2 } }) }
     ensures option_behind { settings_of (codes "seq" ∷ codes "--budget" ∷ codes "2" ∷ []) ≡

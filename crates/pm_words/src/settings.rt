@@ -23,6 +23,8 @@ pub enum Mode {
     Cut,
     /// A scenario with a journal behind it: whether the journal is a legal run, and what it commits.
     Replay,
+    /// The lowest run of a scenario, which always takes the message of least moment and never rolls back.
+    Lowest,
 }
 
 impl Mode {
@@ -38,7 +40,7 @@ impl Mode {
 #[derive(Clone, Copy, Debug, PartialEq, Eq)]
 pub struct Settings {
     pub mode: Mode,
-    /// How a run goes; `budget` is counted in deliveries where the mode is `Run` or `Demo`,
+    /// How a run goes; `budget` is counted in deliveries where the mode is `Run`, `Demo` or `Lowest`,
     /// else in steps of the sequential run.
     pub run: RunSettings,
     /// The number of the generated scenario.
@@ -79,6 +81,8 @@ pub fn mode_named(word: &str) -> Option<Mode>
         Some(Mode::Cut)
     } else if word == "replay" {
         Some(Mode::Replay)
+    } else if word == "lowest" {
+        Some(Mode::Lowest)
     } else {
         None
     }

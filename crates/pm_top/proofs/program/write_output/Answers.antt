@@ -43,3 +43,6 @@ returns-in-Place-clause-illegal g c = λ line h. absurd (c.write_place.ensures.i
 
 pub returns-in-Cut-clause-illegal : goal.returns-in-Cut-clause-illegal
 returns-in-Cut-clause-illegal g c = λ line h. absurd (c.write_cut.ensures.illegal line (sym c.still-in-Cut.ensures.ending ∙ h))
+
+pub returns-in-Lowest-clause-printed : goal.returns-in-Lowest-clause-printed
+returns-in-Lowest-clause-printed g c = rw (c.in-Lowest.is, c.ending_of-in-Lowest.ensures) c.write_lowest-ran.ensures.printed

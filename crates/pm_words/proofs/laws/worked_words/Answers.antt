@@ -11,6 +11,7 @@ returns c = record {
   place = rows.place;
   cut = rows.cut;
   replay = rows.replay;
+  lowest = rows.lowest;
   option_before = rows.option_before;
   option_behind = rows.option_behind;
   behind_hyphens = rows.behind_hyphens;
