@@ -62,7 +62,7 @@ const GOOD: Case = Case {
 };
 
 /// Devices that give or take a part, or fail.
-const DEVICES: [Case; 6] = [
+const DEVICES: [Case; 8] = [
     Case {
         name: "one byte at a time",
         input: &BYTES,
@@ -102,12 +102,29 @@ const DEVICES: [Case; 6] = [
         ..GOOD
     },
     Case {
+        name: "a take behind the whole input fails",
+        input: &[Cue::All, Cue::Fail],
+        status: 4,
+        written: "",
+        told: READ_FAULT,
+        ..GOOD
+    },
+    Case {
         name: "the error line fails",
         input: &[Cue::Fail],
         err: &[Cue::Take(9), Cue::Fail],
         status: 4,
         written: "",
         told: "pdesmas: ",
+        ..GOOD
+    },
+    Case {
+        name: "the error line of refused words fails at once",
+        words: &["fly"],
+        err: &[Cue::Fail],
+        status: 1,
+        written: "",
+        told: "",
         ..GOOD
     },
 ];
@@ -636,6 +653,18 @@ fn values_of_the_wrong_kind(rt: HostRuntime) -> Result<(), Fail> {
         let left = run_text(alloc, "check", text.as_str())?;
         let told = format!(in alloc; "pdesmas: scenario: {key} is of the wrong kind\n")?;
         assert!(rt; left.is(2, "", told.as_str()), "{key}: {new}");
+    }
+    Ok(())
+}
+
+/// Each prefix of a scenario's text is one, or is refused.
+#[test]
+fn each_prefix_of_a_scenario(rt: HostRuntime) -> Result<(), Fail> {
+    let alloc = rt.alloc();
+    for length in 0..FORAGERS.len() + 1 {
+        let input = Vec::from_slice(alloc, &FORAGERS.as_bytes()[..length])?;
+        let left = run_bytes(alloc, &["check"], input)?;
+        assert!(rt; left.status == 0 || left.status == 2, "{length}");
     }
     Ok(())
 }
