@@ -656,15 +656,3 @@ fn values_of_the_wrong_kind(rt: HostRuntime) -> Result<(), Fail> {
     }
     Ok(())
 }
-
-/// Each prefix of a scenario's text is one, or is refused.
-#[test]
-fn each_prefix_of_a_scenario(rt: HostRuntime) -> Result<(), Fail> {
-    let alloc = rt.alloc();
-    for length in 0..FORAGERS.len() + 1 {
-        let input = Vec::from_slice(alloc, &FORAGERS.as_bytes()[..length])?;
-        let left = run_bytes(alloc, &["check"], input)?;
-        assert!(rt; left.status == 0 || left.status == 2, "{length}");
-    }
-    Ok(())
-}
