@@ -34,14 +34,17 @@ fn ending_of(error: &io::Error) -> Ending {
 }
 
 /// Writes what is held back, and gives the ending: that of the call where nothing is held back then, else that the
-/// output failed.
+/// output failed. An output that failed in the call is offered nothing more.
 fn flushed<W: Write + Drop>(output: &mut BufWriter<W>, ending: Ending) -> Ending
     ensures bytes { Keeps (writer_contents W.contents output.old) (writer_contents W.contents output.new) }
     ensures whole { result ≢ Ending.WriteFault → (result ≡ ending) × (writer_buffer output.new ≡ []) }
 {
-    match output.flush() {
-        Ok(()) => ending,
-        Err(_) => Ending::WriteFault,
+    match ending {
+        Ending::WriteFault => Ending::WriteFault,
+        ending => match output.flush() {
+            Ok(()) => ending,
+            Err(_) => Ending::WriteFault,
+        },
     }
 }
 
@@ -74,5 +77,8 @@ fn main(rt: HostRuntime) -> ExitCode {
         &mut StdSink::new(io::sink()),
         &FreeGate,
     );
-    told(&mut err, &flushed(&mut output, report.ending))
+    let ending = flushed(&mut output, report.ending);
+    // What an output that failed has not taken is let go: a writer that is dropped would offer it once more.
+    let _ = output.into_parts();
+    told(&mut err, &ending)
 }
