@@ -62,7 +62,7 @@ const GOOD: Case = Case {
 };
 
 /// Devices that give or take a part, or fail.
-const DEVICES: [Case; 6] = [
+const DEVICES: [Case; 8] = [
     Case {
         name: "one byte at a time",
         input: &BYTES,
@@ -102,12 +102,29 @@ const DEVICES: [Case; 6] = [
         ..GOOD
     },
     Case {
+        name: "a take behind the whole input fails",
+        input: &[Cue::All, Cue::Fail],
+        status: 4,
+        written: "",
+        told: READ_FAULT,
+        ..GOOD
+    },
+    Case {
         name: "the error line fails",
         input: &[Cue::Fail],
         err: &[Cue::Take(9), Cue::Fail],
         status: 4,
         written: "",
         told: "pdesmas: ",
+        ..GOOD
+    },
+    Case {
+        name: "the error line of refused words fails at once",
+        words: &["fly"],
+        err: &[Cue::Fail],
+        status: 1,
+        written: "",
+        told: "",
         ..GOOD
     },
 ];
