@@ -1,0 +1,27 @@
+//! What each part of the lowest run costs, in deliveries.
+
+ghost use Rattle.std.specs.Prelude.{ℕ, List as Seq};
+ghost use Rattle.pm_base.specs.declared.run.Event.{Event};
+ghost use Rattle.pm_base.specs.declared.stamp.Num.{Num};
+ghost use Rattle.pm_plan.specs.Plans.{IsValid};
+ghost use Rattle.pm_plan.specs.declared.plan.Plan.{Plan};
+ghost use Rattle.pm_sim.specs.Worlds.{World};
+ghost use Rattle.pm_cost.specs.Spending.{QueryCosts};
+ghost use Rattle.pm_cost.specs.Weights.{GrowCosts, TellingCosts};
+
+/// In each world that a legal run reaches, deliveries alone take at most two Asks and Finishes of a range query for each
+/// communication process, and the Finishes that are on their way.
+pub fn a_range_query_costs()
+    ensures costs { (p : Plan) (n : ℕ) (w : World) (m : Num) (es : Seq Event) → IsValid p → QueryCosts p n w m es }
+{}
+
+/// What is told of a variable whose writes are all of one moment, and all that comes of it, is fewer deliveries than
+/// there are communication processes.
+pub fn telling_costs()
+    ensures told { (p : Plan) → IsValid p → TellingCosts p }
+{}
+
+/// A Grow costs one delivery more than all that comes of it, range queries that catch up included.
+pub fn a_grow_costs()
+    ensures grown { (p : Plan) → IsValid p → GrowCosts p }
+{}

@@ -1,0 +1,8 @@
+//! What the lowest run costs, in deliveries. Definitions that contracts cite, and their laws.
+#![tactic(auto)]
+
+mod laws;
+mod rows;
+
+pub use laws::{a_grow_costs, a_range_query_costs, telling_costs};
+pub use rows::{counting_costs, pruned_window_costs};
