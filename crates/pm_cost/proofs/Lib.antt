@@ -1,5 +1,6 @@
-pub mod Rows
+pub mod Worked
 pub mod QueryCosts
 pub mod QueryRuns
 pub mod TreeSides
 pub mod GrowCosts
+pub mod Hits

@@ -21,6 +21,7 @@ use Rattle.pm_sim.specs.Routings.{stands_at}
 use Rattle.pm_sim.specs.Sims.{In, has_read, one_if}
 use Rattle.pm_sim.specs.Worlds.{Process, clps_of, home, hub_of, ports, process}
 use Rattle.pm_sim.specs.Worlds.Process.{AtAgent, AtClp}
+use Rattle.pm_calm.specs.Phases.{RecAt}
 use Rattle.pm_cost.specs.Spending.{total, waits_rest}
 
 -- communication process x is behind d's port e
@@ -111,3 +112,20 @@ GrowCosts p = (c d k : ℕ) (z : Stamp) (until : Option Stamp) (u : Window) (x :
     → weights p c (clp_after (hub_of p c) d (message.Grow k z until u) x).sent
     + regs_weight p c (clp_after (hub_of p c) d (message.Grow k z until u) x).clp.queries
     < weight p (AtClp c) (AtClp d) (message.Grow k z until u) + regs_weight p c x.queries
+
+-- no range query is over
+abbrev pub none_over : Num → ℕ → Window → Type 0
+none_over k j u = ⊥
+
+-- the records here are settled, and their writes and reads are all of one moment
+abbrev pub AllOfMoment : Plan → Stamp → ClpState → Type 0
+AllOfMoment p s x = (v : ℕ) (r : Parts) → rec_at x.records v ≡ Some r → RecAt p s none_over v r
+
+-- where all is of one moment, the hits of a range query of that moment, with all that comes of them, cost at most as
+-- many deliveries as there are communication processes for each record that didn't have the read and now has it
+abbrev pub HitsCost : Plan → Type 0
+HitsCost p = (c : ℕ) (s : Stamp) (k : Num) (u : Window) (i m : ℕ) (x : ClpState) → c < clps_of p
+    → k.agent < length p.agents → AllOfMoment p s x
+    → weights p c (watch_all (hub_of p c) k s u i m x).sent
+    + clps_of p * unread k (watch_all (hub_of p c) k s u i m x).clp.records
+    ≤ clps_of p * unread k x.records

@@ -7,7 +7,7 @@ ghost use Rattle.pm_plan.specs.Plans.{IsValid};
 ghost use Rattle.pm_plan.specs.declared.plan.Plan.{Plan};
 ghost use Rattle.pm_sim.specs.Worlds.{World};
 ghost use Rattle.pm_cost.specs.Spending.{QueryCosts};
-ghost use Rattle.pm_cost.specs.Weights.{GrowCosts, TellingCosts};
+ghost use Rattle.pm_cost.specs.Weights.{GrowCosts, HitsCost, TellingCosts};
 
 /// In each world that a legal run reaches, deliveries alone take at most two Asks and Finishes of a range query for each
 /// communication process, and the Finishes that are on their way.
@@ -24,4 +24,10 @@ pub fn telling_costs()
 /// A Grow costs one delivery more than all that comes of it, range queries that catch up included.
 pub fn a_grow_costs()
     ensures grown { (p : Plan) → IsValid p → GrowCosts p }
+{}
+
+/// The hits of a range query, and all that comes of them, are at most as many deliveries as there are communication
+/// processes for each record that didn't have its read, where all that the records received is of its moment.
+pub fn hits_cost()
+    ensures hits { (p : Plan) → IsValid p → HitsCost p }
 {}

@@ -1,4 +1,4 @@
-use Rattle.pm_cost.proofs.Rows.{counting_sum}
+use Rattle.pm_cost.proofs.Worked.{counting_sum}
 use Rattle.pm_cost.proofs.rows.counting_costs.Goals as goal
 
 pub returns : goal.returns
