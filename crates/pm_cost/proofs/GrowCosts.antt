@@ -161,6 +161,7 @@ module _ (p : Plan) (tree : TreeOk p) (c : ℕ) (lc : c < clps_of p) where
   tell_one_cost : (k : ℕ) (from : Stamp) (until : Option Stamp) (w : Window) (d : ℕ) → In d (ports p c)
       → (x : ClpState) → (weights p c (tell_one (hub_of p c) k from until w d x).sent ≤ side p c d)
       × ((tell_one (hub_of p c) k from until w d x).clp.queries ≡ x.queries)
+      × ((tell_one (hub_of p c) k from until w d x).clp.routing ≡ x.routing)
   tell_one_cost k from until w d i x =
       let when : Interval = record { from = Some from; until = until } in
       let told : ClpSends = record {
@@ -170,21 +171,23 @@ module _ (p : Plan) (tree : TreeOk p) (c : ℕ) (lc : c < clps_of p) where
       let a : weight p (process p d) (AtClp c) (message.Grow k from until w) ≡ side p c d =
       ap (λ z. weight p z (AtClp c) (message.Grow k from until w)) (at_port d i) in
       cond_both (covers (known_at (ports p c) d k x.told) when w) (no_clp_sends x) told
-      (λ (r : ClpSends). (weights p c r.sent ≤ side p c d) × (r.clp.queries ≡ x.queries))
-      (λ _. (omega arith, refl)) (λ _. (omega (arith, a), refl))
+      (λ (r : ClpSends). (weights p c r.sent ≤ side p c d) × (r.clp.queries ≡ x.queries)
+      × (r.clp.routing ≡ x.routing))
+      (λ _. (omega arith, refl, refl)) (λ _. (omega (arith, a), refl, refl))
 
   pub tell_cost : (k : ℕ) (from : Stamp) (until : Option Stamp) (w : Window) (ds : List ℕ)
       → ((d : ℕ) → In d ds → In d (ports p c)) → (x : ClpState)
       → (weights p c (tell (hub_of p c) k from until w ds x).sent ≤ sides p c ds)
       × ((tell (hub_of p c) k from until w ds x).clp.queries ≡ x.queries)
-  tell_cost k from until w [] is x = (omega arith, refl)
+      × ((tell (hub_of p c) k from until w ds x).clp.routing ≡ x.routing)
+  tell_cost k from until w [] is x = (omega arith, refl, refl)
   tell_cost k from until w (d ∷ ds) is x =
       let first : ClpSends = tell_one (hub_of p c) k from until w d x in
       let one = tell_one_cost k from until w d (is d (inl refl)) x in
       let rest = tell_cost k from until w ds (λ e i. is e (inr i)) first.clp in
       let a = weights_append p c first.sent (tell (hub_of p c) k from until w ds first.clp).sent in
       let b = one.0 in let d' = rest.0 in
-      (omega (arith, a, b, d'), rest.1 ∙ one.1)
+      (omega (arith, a, b, d'), rest.1 ∙ one.1, rest.2 ∙ one.2)
 
   -- a Grow costs one delivery more than all that comes of it
   pub grow_cost : (d k : ℕ) (z : Stamp) (until : Option Stamp) (u : Window) (x : ClpState) → d < clps_of p
@@ -225,12 +228,14 @@ module _ (p : Plan) (tree : TreeOk p) (c : ℕ) (lc : c < clps_of p) where
   pub telling_cost : (v : ℕ) (s : Stamp) (x : ClpState) → PutsAt s v x
       → (weights p c (telling (hub_of p c) v s x).sent < clps_of p)
       × ((telling (hub_of p c) v s x).clp.queries ≡ x.queries)
+      × ((telling (hub_of p c) v s x).clp.routing ≡ x.routing)
   telling_cost v s x h = go (rec_at x.records v) refl
     where
       go : (o : Option Parts) → rec_at x.records v ≡ o
           → (weights p c (tell_record (hub_of p c) v s o x).sent < clps_of p)
           × ((tell_record (hub_of p c) v s o x).clp.queries ≡ x.queries)
-      go None e = (omega (arith, lc), refl)
+          × ((tell_record (hub_of p c) v s o x).clp.routing ≡ x.routing)
+      go None e = (omega (arith, lc), refl, refl)
       go (Some r) e =
           let k : ℕ = class_at (hub_of p c) v in
           let w : Window = point_of (value_below r line.End) in
@@ -239,8 +244,9 @@ module _ (p : Plan) (tree : TreeOk p) (c : ℕ) (lc : c < clps_of p) where
           let n = all_sides p tree c lc in
           let b = weights_append p c (tell (hub_of p c) k s None w (ports p c) x).sent [] in
           subst (λ ps. (weights p c (tell_periods (hub_of p c) k ps x).sent < clps_of p)
-          × ((tell_periods (hub_of p c) k ps x).clp.queries ≡ x.queries)) (sym (one_period s r r.puts (h r e)))
-          (omega (arith, a, n, b), t.1)
+          × ((tell_periods (hub_of p c) k ps x).clp.queries ≡ x.queries)
+          × ((tell_periods (hub_of p c) k ps x).clp.routing ≡ x.routing)) (sym (one_period s r r.puts (h r e)))
+          (omega (arith, a, n, b), t.1, t.2)
 
 pub all_telling : (p : Plan) → IsValid p → TellingCosts p
 all_telling p valid c v s x lc h = (telling_cost p (tree_of p valid) c lc v s x h).0

@@ -4,3 +4,4 @@ pub mod QueryRuns
 pub mod TreeSides
 pub mod GrowCosts
 pub mod Hits
+pub mod Falling
