@@ -19,6 +19,7 @@ use Rattle.pm_message.specs.declared.Message.TheVariants as message
 use Rattle.pm_periods.proofs.Settling.{settled-same}
 use Rattle.pm_periods.specs.Records.{settled}
 use Rattle.pm_periods.specs.Rows.{key_lt}
+use Rattle.pm_plan.specs.Plans.{IsValid}
 use Rattle.pm_plan.specs.declared.plan.Plan.{Plan}
 use Rattle.pm_ranges.specs.Known.{Known}
 use Rattle.pm_routes.specs.Routings.{counted, is_drawn}
@@ -31,20 +32,24 @@ use Rattle.pm_queries.specs.declared.registered.Sent.{Sent}
 use Rattle.pm_clp.specs.Clps.{ClpSends, ClpState, and_then, at_record, catching, clp_after, counting, forwards, installed, leaves, leaving, no_clp_sends, on_record, on_way, queries_watch, rec_at, reg_of, registered, sent_on, take_put, take_watch, telling, to_agent, watch_all, watch_if, way_of, with_count}
 use Rattle.pm_sim.proofs.Movings.{drawn_port}
 use Rattle.pm_sim.proofs.Places.{in_range, process_clp}
+use Rattle.pm_sim.proofs.Promised.{plan_fits}
 use Rattle.pm_sim.proofs.Takings.{LinkOk}
-use Rattle.pm_sim.proofs.Trims.{filter_in, in_filter}
-use Rattle.pm_sim.specs.Routings.{TreeOk}
-use Rattle.pm_sim.specs.Sims.{In, class_at, one_if}
+use Rattle.pm_sim.proofs.Trims.{filter_in}
+use Rattle.pm_sim.proofs.Wholes.{first_whole}
+use Rattle.pm_sim.specs.Routings.{ForClp, IsClp, TreeOk}
+use Rattle.pm_sim.specs.Sims.{In, class_at, vars_of}
 use Rattle.pm_sim.specs.Worlds.{Process, clps_of, home, hub_of, number, ports, process}
 use Rattle.pm_sim.specs.Worlds.Process.{AtAgent, AtClp}
-use Rattle.pm_calm.specs.Phases.{ClpAt, MailAt, MoveAt, OverAt, Phase, RecAt, RegAt, Silent}
+use Rattle.pm_calm.specs.Phases.{ClpAt, MailAt, MoveAt, Phase, RecAt, WriteAt, is_over}
 use Rattle.pm_calm.specs.Phases.Phase.{Idle, Single, Range}
 use Rattle.pm_calm.proofs.Acts.{OfRange, reg_late}
 use Rattle.pm_calm.proofs.Records.{put_at, watch_at, watch_once}
 use Rattle.pm_cost.specs.Spending.{waits_rest}
-use Rattle.pm_cost.specs.Weights.{PutsAt, away, homewards, late, reg_weight, regs_weight, side, sides, unread, weight, weights}
-use Rattle.pm_cost.proofs.GrowCosts.{catch_cost, grow_cost, no_self, telling_cost, weights_append}
+use Rattle.pm_cost.specs.Falls.{DeliveriesCost, NamesAgent, Neighbour, Onwards, hits_left, left_of}
+use Rattle.pm_cost.specs.Weights.{away, late, reg_weight, regs_weight, side, sides, unread, weight, weights}
+use Rattle.pm_cost.proofs.GrowCosts.{catch_cost, grow_cost, no_self, telling_cost, tree_of, weights_append}
 use Rattle.pm_cost.proofs.Hits.{give_goes, gives_cost, side_some, watch_cost}
+use Rattle.pm_cost.proofs.QueryCosts.{watch_queries}
 use Rattle.pm_cost.proofs.TreeSides.{all_sides, side_first, side_less, side_next}
 
 some_rec : (a b : Parts) → Some a ≡ Some b → a ≡ b
@@ -342,24 +347,215 @@ module _ (p : Plan) (tree : TreeOk p) (c : ℕ) (lc : c < clps_of p) where
 
 -- ---- a delivery
 
--- the hits that the open range query may still have here
-abbrev pub hits_left : Plan → Phase → ClpState → ℕ
-hits_left p Idle x = 0
-hits_left p (Single n v) x = 0
-hits_left p (Range n i u) x = clps_of p * unread n x.records
+hits_same : (p : Plan) (ph : Phase) (x y : ClpState) → y.records ≡ x.records → hits_left p ph y ≡ hits_left p ph x
+hits_same p Idle x y e = refl
+hits_same p (Single n v) x y e = refl
+hits_same p (Range n i u) x y e = ap (λ rs. clps_of p * unread n rs) e
 
--- what is left to pay of this process, and of what it sends
-abbrev pub left_of : Plan → ℕ → Phase → ClpSends → ℕ
-left_of p c ph r = weights p c r.sent + regs_weight p c r.clp.queries + hits_left p ph r.clp
+no_hits : (p : Plan) (ph : Phase) → MoveAt ph → (x : ClpState) → hits_left p ph x ≡ 0
+no_hits p Idle l x = refl
+no_hits p (Single n v) l x = refl
+no_hits p (Range n i u) l x = absurd l
 
--- no read and no write of a variable is sent back to where it came from
-abbrev pub Onwards : Process → Message → ClpState → Type 0
-Onwards f (message.Put n z v g) x = (e : ℕ) → way_of v x ≡ way.Port e → f ≡ AtClp e → ⊥
-Onwards f (message.Ask k z (query.One v)) x = (e : ℕ) → way_of v x ≡ way.Port e → f ≡ AtClp e → ⊥
-Onwards f (message.Ask k z (query.Class j u)) x = Unit {0}
-Onwards f (message.Wake k z) x = Unit {0}
-Onwards f (message.Cut n z v) x = Unit {0}
-Onwards f (message.Give g) x = Unit {0}
-Onwards f (message.Finish k z) x = Unit {0}
-Onwards f (message.Move v z r) x = Unit {0}
-Onwards f (message.Grow k z u w) x = Unit {0}
+write_moves : (ph : Phase) → WriteAt ph → MoveAt ph
+write_moves Idle l = tt
+write_moves (Single n x) l = tt
+write_moves (Range n i w) l = absurd l
+
+module _ (p : Plan) (tree : TreeOk p) (c : ℕ) (lc : c < clps_of p) (s : Stamp) (over : Num → ℕ → Window → Type 0)
+    where
+  abbrev Falls : Phase → Process → Message → ClpState → Type 0
+  Falls ph f m x = suc (left_of p c ph (clp_after (hub_of p c) (number p f) m x))
+      ≤ weight p (AtClp c) f m + regs_weight p c x.queries + hits_left p ph x
+
+  -- where no hits are to come
+  plainly : (ph : Phase) → MoveAt ph → (n : ℕ) (x : ClpState) (r : ClpSends)
+      → suc (weights p c r.sent + regs_weight p c r.clp.queries) ≤ n + regs_weight p c x.queries
+      → suc (left_of p c ph r) ≤ n + regs_weight p c x.queries + hits_left p ph x
+  plainly ph l n x r le =
+      (let a = no_hits p ph l x in let b = no_hits p ph l r.clp in omega (arith, le, a, b))
+
+  abbrev Lead : ClpState → Type 0
+  Lead x = (v e : ℕ) → way_of v x ≡ way.Port e → In e (ports p c)
+
+  put_falls : (ph : Phase) → WriteAt ph → (f : Process) → LinkOk p (AtClp c) f → (n : Num) (z : Stamp) (v : ℕ)
+      (g : Change) → z ≡ s → (x : ClpState) → Recs p tree c lc s over x → x.routing.ports ≡ ports p c → Lead x
+      → Onwards f (message.Put n z v g) x → Falls ph f (message.Put n z v g) x
+  put_falls ph wr f link n z v g es x h ps lead on =
+      plainly ph (write_moves ph wr) (away p (AtClp c) f + clps_of p) x
+      (clp_after (hub_of p c) (number p f) (message.Put n z v g) x) (go (way_of v x) refl)
+    where
+      y : PutRow
+      y = record { num = n; stamp = z; change = g }
+
+      Few : ClpSends → Type 0
+      Few r = suc (weights p c r.sent + regs_weight p c r.clp.queries)
+          ≤ away p (AtClp c) f + clps_of p + regs_weight p c x.queries
+
+      go : (o : Way) → way_of v x ≡ o → Few (on_way (hub_of p c) o (message.Put n z v g) x (λ w.
+          and_then (and_then (at_record (hub_of p c) v (take_put v (record { num = n; stamp = z; change = g })) w)
+          (telling (hub_of p c) v z)) (counting (hub_of p c) v (number p f))))
+      go (way.Port e) q =
+          let i = lead v e q in
+          let a = away_next p tree c lc f link e i (λ k. on e q k) in
+          let b : weight p (process p e) (AtClp c) (message.Put n z v g) ≡ side p c e + clps_of p =
+          ap (λ k. weight p k (AtClp c) (message.Put n z v g)) (process_clp p e (tree.inside c e i)) in
+          omega (arith, a, b)
+      go way.Here q =
+          let a = put_here p tree c lc s over v (number p f) y es x h ps in
+          let b = away_some p tree c lc f link in omega (arith, a, b)
+
+  one_falls : (ph : Phase) → MoveAt ph → (f : Process) → LinkOk p (AtClp c) f → (k : Num) (z : Stamp) (v : ℕ)
+      → z ≡ s → k.agent < length p.agents → (x : ClpState) → Recs p tree c lc s over x
+      → x.routing.ports ≡ ports p c → Lead x
+      → Onwards f (message.Ask k z (query.One v)) x → Falls ph f (message.Ask k z (query.One v)) x
+  one_falls ph l f link k z v es la x h ps lead on =
+      plainly ph l (away p (AtClp c) f + clps_of p + 1) x
+      (clp_after (hub_of p c) (number p f) (message.Ask k z (query.One v)) x) (go (way_of v x) refl)
+    where
+      Few : ClpSends → Type 0
+      Few r = suc (weights p c r.sent + regs_weight p c r.clp.queries)
+          ≤ away p (AtClp c) f + clps_of p + 1 + regs_weight p c x.queries
+
+      go : (o : Way) → way_of v x ≡ o → Few (on_way (hub_of p c) o (message.Ask k z (query.One v)) x (λ w.
+          and_then (at_record (hub_of p c) v (take_watch v k z whole) w) (counting (hub_of p c) v (number p f))))
+      go (way.Port e) q =
+          let i = lead v e q in
+          let a = away_next p tree c lc f link e i (λ k'. on e q k') in
+          let b : weight p (process p e) (AtClp c) (message.Ask k z (query.One v)) ≡ side p c e + clps_of p + 1 =
+          ap (λ k'. weight p k' (AtClp c) (message.Ask k z (query.One v))) (process_clp p e (tree.inside c e i)) in
+          omega (arith, a, b)
+      go way.Here q =
+          let a = one_here p tree c lc s over v (number p f) k z whole es la x h ps in
+          let b = away_some p tree c lc f link in omega (arith, a, b)
+
+  -- a query that is registered already costs its delivery alone; else what watching costs and leaves is given
+  class_falls : (ph : Phase) (f : Process) → LinkOk p (AtClp c) f → (k : Num) (z : Stamp) (j : ℕ) (u : Window)
+      → (x : ClpState)
+      → (weights p c (watch_all (hub_of p c) k z u (class_row p.layout.classes j).first
+      (class_row p.layout.classes j).count x).sent
+      + hits_left p ph (watch_all (hub_of p c) k z u (class_row p.layout.classes j).first
+      (class_row p.layout.classes j).count x).clp ≤ hits_left p ph x)
+      → Falls ph f (message.Ask k z (query.Class j u)) x
+  class_falls ph f link k z j u x le =
+      let row = class_row p.layout.classes j in
+      let s1 : ClpSends = watch_all (hub_of p c) k z u row.first row.count x in
+      let r : ClpSends = registered (hub_of p c) (number p f) k z j u s1.clp in
+      let qs : regs_weight p c s1.clp.queries ≡ regs_weight p c x.queries =
+      ap (regs_weight p c) (watch_queries (hub_of p c) k k z u row.first row.count x) in
+      let a = registered_cost p tree c lc (number p f) k z j u s1.clp in
+      let b = away_others p tree c lc f link in
+      let d = away_some p tree c lc f link in
+      let w = weights_append p c s1.sent r.sent in
+      let hs = hits_same p ph s1.clp r.clp refl in
+      cond_both (has_reg k x.queries) (no_clp_sends x)
+      (and_then s1 (registered (hub_of p c) (number p f) k z j u))
+      (λ (y : ClpSends). suc (left_of p c ph y) ≤ 2 * away p (AtClp c) f + regs_weight p c x.queries
+      + hits_left p ph x)
+      (λ _. omega (arith, d)) (λ _. omega (arith, le, a, b, w, qs, hs))
+
+  -- the query is over
+  over_falls : (ph : Phase) → MoveAt ph → OfRange p → (f : Process) → LinkOk p (AtClp c) f → (k : Num) (z : Stamp)
+      (j : ℕ) (u : Window) → z ≡ s → over k j u → (x : ClpState) → Recs p tree c lc s over x
+      → Falls ph f (message.Ask k z (query.Class j u)) x
+  over_falls ph l rg f link k z j u es ov x h =
+      let row = class_row p.layout.classes j in
+      let s1 : ClpSends = watch_all (hub_of p c) k z u row.first row.count x in
+      let a = silent_all p tree c lc s over rg k z j u es ov row.first row.count (omega arith) (omega arith) x h in
+      let n = a.none in
+      let b = no_hits p ph l x in
+      let d = no_hits p ph l s1.clp in
+      class_falls ph f link k z j u x (omega (arith, n, b, d))
+
+  -- the query is open
+  open_falls : (f : Process) → LinkOk p (AtClp c) f → (k : Num) (z : Stamp) (j : ℕ) (u : Window) (n : Num) (i : ℕ)
+      (w : Window) → z ≡ s → k ≡ n → k.agent < length p.agents → (x : ClpState) → Recs p tree c lc s over x
+      → Falls (Range n i w) f (message.Ask k z (query.Class j u)) x
+  open_falls f link k z j u n i w es ek la x h =
+      subst (λ t. Falls (Range n i w) f (message.Ask k t (query.Class j u)) x) (sym es)
+      (subst (λ m. Falls (Range m i w) f (message.Ask k s (query.Class j u)) x) ek
+      (let row = class_row p.layout.classes j in
+      let a = watch_cost p tree c lc s over k u la row.first row.count x h in
+      class_falls (Range k i w) f link k s j u x a))
+
+  finish_falls : (ph : Phase) (f : Process) (k : Num) (z : Stamp) (x : ClpState) → Falls ph f (message.Finish k z) x
+  finish_falls ph f k z x =
+      let a = finish_cost p tree c lc k (number p f) x.queries in
+      let hs = hits_same p ph x (clp_after (hub_of p c) (number p f) (message.Finish k z) x).clp refl in
+      omega (arith, a, hs)
+
+  give_falls : (ph : Phase) (f : Process) (g : GiveRow) → g.num.agent < length p.agents → (x : ClpState)
+      → Falls ph f (message.Give g) x
+  give_falls ph f g la x = (let a = give_goes p tree c lc g la in omega (arith, a))
+
+  grow_falls : (ph : Phase) → WriteAt ph → (f : Process) → IsClp f → LinkOk p (AtClp c) f → (k : ℕ) (z : Stamp)
+      (until : Option Stamp) (u : Window) (x : ClpState) → Falls ph f (message.Grow k z until u) x
+  grow_falls ph wr (AtAgent a) h link k z until u x = absurd h
+  grow_falls ph wr (AtClp d) h link k z until u x =
+      let a = grow_cost p tree c lc d k z until u x (tree.inside c d link) (tree.back c d lc link) in
+      plainly ph (write_moves ph wr) (side p d c) x (clp_after (hub_of p c) d (message.Grow k z until u) x)
+      (omega (arith, a))
+
+  move_falls : (ph : Phase) → MoveAt ph → (f : Process) (v : ℕ) (z : Stamp) (r : Parts) → RecAt p s over v r
+      → (x : ClpState) → Recs p tree c lc s over x
+      → ((y : Registered) → In y x.queries → (y.stamp ≡ s) × over y.num y.class y.window)
+      → Falls ph f (message.Move v z r) x
+  move_falls ph l f v z r a x h hq =
+      let y : ClpState = installed (hub_of p c) (number p f) v (settled r) x in
+      let b = silent_joins p tree c lc s over v x.queries hq y here in
+      let n = b.none in
+      let q = ap (regs_weight p c) b.regs in
+      plainly ph l 1 x (queries_watch (hub_of p c) v x.queries y) (omega (arith, n, q))
+    where
+      here : Recs p tree c lc s over (installed (hub_of p c) (number p f) v (settled r) x)
+      here w y e = elim (cases_eq w v) [
+        | inr ne ↦ h w y (sym (get_or-set_other x.records v w (Some (settled r)) None ne) ∙ e)
+        | inl g ↦ (let e' : rec_at (set x.records v (Some (settled r))) v ≡ Some y =
+            ap (rec_at (set x.records v (Some (settled r)))) (sym g) ∙ e in
+            let lt : v < length x.records = (let b = in_range (set x.records v (Some (settled r))) v y e' in
+            let n = length-set x.records v (Some (settled r)) in omega (arith, b, n)) in
+            subst (λ k. RecAt p s over k y) (sym g) (subst (RecAt p s over v) (some_rec (settled r) y
+            (sym (get_or-set_same x.records v (Some (settled r)) None lt) ∙ e'))
+            (subst (RecAt p s over v) (sym (settled-same r a.solid)) a)))
+      ]
+
+-- a delivery at a communication process of the lowest run
+pub clp_falls : (p : Plan) (tree : TreeOk p) → OfRange p → (c : ℕ) (s : Stamp) (over : Num → ℕ → Window → Type 0)
+    (ph : Phase) (f : Process) (m : Message) (x : ClpState) → c < clps_of p → LinkOk p (AtClp c) f → (n : ℕ)
+    → ForClp n f m → NamesAgent p m → MailAt p s over ph (AtClp c) f m → ClpAt p s over ph x
+    → x.routing.ports ≡ ports p c → ((v e : ℕ) → way_of v x ≡ way.Port e → In e (ports p c)) → Onwards f m x
+    → suc (left_of p c ph (clp_after (hub_of p c) (number p f) m x))
+    ≤ weight p (AtClp c) f m + regs_weight p c x.queries + hits_left p ph x
+clp_falls p tree rg c s over ph f (message.Wake k z) x lc link n fit na m h ps lead on = absurd fit
+clp_falls p tree rg c s over ph f (message.Cut k z v) x lc link n fit na m h ps lead on = absurd m
+clp_falls p tree rg c s over ph f (message.Give g) x lc link n fit na m h ps lead on =
+    give_falls p tree c lc s over ph f g na x
+clp_falls p tree rg c s over ph f (message.Finish k z) x lc link n fit na m h ps lead on =
+    finish_falls p tree c lc s over ph f k z x
+clp_falls p tree rg c s over ph f (message.Put k z v g) x lc link n fit na m h ps lead on =
+    put_falls p tree c lc s over ph m.1 f link k z v g m.0 x h.records ps lead on
+clp_falls p tree rg c s over ph f (message.Grow k z until u) x lc link n fit na m h ps lead on =
+    grow_falls p tree c lc s over ph m.1 f fit link k z until u x
+clp_falls p tree rg c s over ph f (message.Move v z r) x lc link n fit na m h ps lead on =
+    move_falls p tree c lc s over ph m.1 f v z r m.2 x h.records
+    (λ y i. (h.stamps y i, (reg_late p over ph y m.1 (h.regs y i)).0))
+clp_falls p tree rg c s over Idle f (message.Ask k z (query.One v)) x lc link n fit na m h ps lead on = absurd m.1
+clp_falls p tree rg c s over (Range i j w) f (message.Ask k z (query.One v)) x lc link n fit na m h ps lead on =
+    absurd m.1
+clp_falls p tree rg c s over (Single i j) f (message.Ask k z (query.One v)) x lc link n fit na m h ps lead on =
+    one_falls p tree c lc s over (Single i j) tt f link k z v m.0 na x h.records ps lead on
+clp_falls p tree rg c s over Idle f (message.Ask k z (query.Class j u)) x lc link n fit na m h ps lead on =
+    over_falls p tree c lc s over Idle tt rg f link k z j u m.0 m.1.0 x h.records
+clp_falls p tree rg c s over (Single i v) f (message.Ask k z (query.Class j u)) x lc link n fit na m h ps lead on =
+    over_falls p tree c lc s over (Single i v) tt rg f link k z j u m.0 m.1.0 x h.records
+clp_falls p tree rg c s over (Range i t w) f (message.Ask k z (query.Class j u)) x lc link n fit na m h ps lead on =
+    open_falls p tree c lc s over f link k z j u i t w m.0 m.1.0 na x h.records
+
+pub all_deliveries : (p : Plan) → IsValid p → DeliveriesCost p
+all_deliveries p valid c s os ph f m x a =
+    clp_falls p (tree_of p valid) (first_whole p (plan_fits p valid)).full.sim.shape.of_range c s (is_over os) ph f m x
+    a.inside (linked f a.neighbour) (vars_of p) a.fits a.names a.letter a.state a.ports_are a.leads a.onwards
+  where
+    linked : (f : Process) → Neighbour p c f → LinkOk p (AtClp c) f
+    linked (AtClp d) n = n
+    linked (AtAgent b) n = n

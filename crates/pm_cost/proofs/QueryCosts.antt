@@ -314,7 +314,7 @@ module _ (h : Hub) (m : Num) where
           let ds : List ℕ = filter (sent_on h y.bound from j z u) h.ports in
           (add_else (reg_of h from k z j u ds) y.queries f, forwards_else from (reg_of h from k z j u ds) ds f)
 
-  watch_queries : (k : Num) (z : Stamp) (u : Window) (i n : ℕ) (x : ClpState)
+  pub watch_queries : (k : Num) (z : Stamp) (u : Window) (i n : ℕ) (x : ClpState)
       → (watch_all h k z u i n x).clp.queries ≡ x.queries
   watch_queries k z u i zero x = refl
   watch_queries k z u i (suc n) x =

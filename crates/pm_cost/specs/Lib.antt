@@ -1,3 +1,4 @@
 pub mod Costs
 pub mod Spending
 pub mod Weights
+pub mod Falls

@@ -6,6 +6,7 @@ ghost use Rattle.pm_base.specs.declared.stamp.Num.{Num};
 ghost use Rattle.pm_plan.specs.Plans.{IsValid};
 ghost use Rattle.pm_plan.specs.declared.plan.Plan.{Plan};
 ghost use Rattle.pm_sim.specs.Worlds.{World};
+ghost use Rattle.pm_cost.specs.Falls.{DeliveriesCost};
 ghost use Rattle.pm_cost.specs.Spending.{QueryCosts};
 ghost use Rattle.pm_cost.specs.Weights.{GrowCosts, HitsCost, TellingCosts};
 
@@ -30,4 +31,11 @@ pub fn a_grow_costs()
 /// processes for each record that didn't have its read, where all that the records received is of its moment.
 pub fn hits_cost()
     ensures hits { (p : Plan) → IsValid p → HitsCost p }
+{}
+
+/// A delivery at a communication process of the lowest run costs one: what the process and all that it sends may still
+/// cost is at least one less than what the message and the process could cost before. A read or a write of a variable
+/// must not go back to where it came from.
+pub fn a_delivery_costs_one()
+    ensures falls { (p : Plan) → IsValid p → DeliveriesCost p }
 {}

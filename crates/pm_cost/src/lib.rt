@@ -4,5 +4,5 @@
 mod laws;
 mod rows;
 
-pub use laws::{a_grow_costs, a_range_query_costs, hits_cost, telling_costs};
+pub use laws::{a_delivery_costs_one, a_grow_costs, a_range_query_costs, hits_cost, telling_costs};
 pub use rows::{counting_costs, pruned_window_costs};
