@@ -5,3 +5,5 @@ pub mod TreeSides
 pub mod GrowCosts
 pub mod Hits
 pub mod Falling
+pub mod Standing
+pub mod Credits

@@ -1,13 +1,18 @@
 -- What the lowest run may cost, in deliveries: a sum over the entries of the sequential run.
-use Rattle.std.specs.Prelude.{ℕ, suc, ◌+◌, ◌*◌, ◌≤◌, List, [], ◌∷◌, length}
+use Rattle.std.specs.Prelude.{ℕ, suc, ◌+◌, ◌*◌, ◌≤◌, List, [], ◌∷◌, length, ℤ}
 use Rattle.pm_base.specs.declared.program.Program.{Program}
 use Rattle.pm_base.specs.declared.program.Sense.{Sense}
 use Rattle.pm_base.specs.declared.program.Sense.TheVariants.{Read, Scan}
 use Rattle.pm_base.specs.declared.program.SenseRow.{SenseRow}
 use Rattle.pm_base.specs.declared.rows.Entry.{Entry}
+use Rattle.pm_base.specs.declared.stamp.Stamp.{Stamp}
+use Rattle.pm_base.specs.declared.value.Query.{Query}
+use Rattle.pm_base.specs.declared.value.Query.TheVariants as query
 use Rattle.pm_model.specs.Runs.{sequential_run}
 use Rattle.pm_plan.specs.declared.plan.Plan.{Plan}
-use Rattle.pm_sim.specs.Sims.{vars_of}
+use Rattle.pm_saved.specs.declared.kept.KeptSense.{KeptSense}
+use Rattle.pm_alp.specs.Agents.{Rule}
+use Rattle.pm_sim.specs.Sims.{Asked, vars_of}
 use Rattle.pm_sim.specs.Worlds.{agent_at, clps_of}
 
 -- one single read more, where the sense is one
@@ -53,3 +58,28 @@ cost_sum p (e ∷ es) = cost_of p e + cost_sum p es
 -- what the whole run of a plan may cost
 abbrev pub bound_of : Plan → ℕ
 bound_of p = cost_sum p (sequential_run p)
+
+-- one single read more, where the query is one
+abbrev pub one_single : Query → ℕ → ℕ
+one_single (query.One v) n = suc n
+one_single (query.Class k w) n = n
+
+-- one range query more, where the query is one
+abbrev pub one_range : Query → ℕ → ℕ
+one_range (query.One v) n = n
+one_range (query.Class k w) n = suc n
+
+-- how many single reads these kept senses are
+abbrev pub singles_of : List KeptSense → ℕ
+singles_of [] = 0
+singles_of (x ∷ xs) = one_single x.query (singles_of xs)
+
+-- how many range queries these kept senses are
+abbrev pub ranges_of : List KeptSense → ℕ
+ranges_of [] = 0
+ranges_of (x ∷ xs) = one_range x.query (ranges_of xs)
+
+-- what a rule has asked in a step is no more than its program has: no more single reads, and no more range queries
+abbrev pub AsksNoMore : Rule → Stamp → List ℤ → List KeptSense → Type 0
+AsksNoMore r s regs xs = Asked r s regs [] xs → (singles_of xs ≤ reads_of r.program.senses)
+    × (ranges_of xs ≤ scans_of r.program.senses)

@@ -1,6 +1,6 @@
 -- What a message, a registered query and a record may still cost, in deliveries, where nothing is rolled back.
 use Rattle.std.specs.Prelude.{ℕ, suc, ◌+◌, ◌*◌, ◌<◌, ◌≤◌, ◌==◌, ◌≡◌, Bool, true, false, not, ◌&&◌, ◌||◌}
-use Rattle.std.specs.Prelude.{if◌then◌else◌, List, [], ◌∷◌, length, Option, Some, None}
+use Rattle.std.specs.Prelude.{if◌then◌else◌, List, [], ◌∷◌, get_or, length, Option, Some, None}
 use Rattle.pm_base.specs.declared.rows.GiveRow.{GiveRow}
 use Rattle.pm_base.specs.declared.rows.Parts.{Parts}
 use Rattle.pm_base.specs.declared.rows.PutRow.{PutRow}
@@ -17,9 +17,9 @@ use Rattle.pm_queries.specs.Queries.{has}
 use Rattle.pm_queries.specs.declared.registered.Registered.{Registered}
 use Rattle.pm_queries.specs.declared.registered.Sent.{Sent}
 use Rattle.pm_clp.specs.Clps.{ClpState, clp_after, rec_at, telling, watch_all}
-use Rattle.pm_sim.specs.Routings.{stands_at}
-use Rattle.pm_sim.specs.Sims.{In, has_read, one_if}
-use Rattle.pm_sim.specs.Worlds.{Process, clps_of, home, hub_of, ports, process}
+use Rattle.pm_sim.specs.Reached.{Reached}
+use Rattle.pm_sim.specs.Sims.{In, has_read, one_if, vars_of}
+use Rattle.pm_sim.specs.Worlds.{Process, World, clps_of, home, hub_of, no_clp, ports, process}
 use Rattle.pm_sim.specs.Worlds.Process.{AtAgent, AtClp}
 use Rattle.pm_calm.specs.Phases.{RecAt}
 use Rattle.pm_cost.specs.Spending.{total, waits_rest}
@@ -129,3 +129,7 @@ HitsCost p = (c : ℕ) (s : Stamp) (k : Num) (u : Window) (i m : ℕ) (x : ClpSt
     → weights p c (watch_all (hub_of p c) k s u i m x).sent
     + clps_of p * unread k (watch_all (hub_of p c) k s u i m x).clp.records
     ≤ clps_of p * unread k x.records
+
+-- the records at all communication processes that don't have the read are no more than there are variables
+abbrev pub UnreadAreFew : Plan → ℕ → World → Num → Type 0
+UnreadAreFew p n w m = Reached p n w → total (clps_of p) (λ c. unread m (get_or w.clps c no_clp).records) ≤ vars_of p

@@ -1,14 +1,18 @@
 //! What each part of the lowest run costs, in deliveries.
 
-ghost use Rattle.std.specs.Prelude.{ℕ, List as Seq};
+ghost use Rattle.std.specs.Prelude.{ℕ, ℤ, List as Seq};
 ghost use Rattle.pm_base.specs.declared.run.Event.{Event};
 ghost use Rattle.pm_base.specs.declared.stamp.Num.{Num};
+ghost use Rattle.pm_base.specs.declared.stamp.Stamp.{Stamp};
+ghost use Rattle.pm_alp.specs.Agents.{Rule};
+ghost use Rattle.pm_saved.specs.declared.kept.KeptSense.{KeptSense};
 ghost use Rattle.pm_plan.specs.Plans.{IsValid};
 ghost use Rattle.pm_plan.specs.declared.plan.Plan.{Plan};
 ghost use Rattle.pm_sim.specs.Worlds.{World};
+ghost use Rattle.pm_cost.specs.Costs.{AsksNoMore};
 ghost use Rattle.pm_cost.specs.Falls.{DeliveriesCost};
 ghost use Rattle.pm_cost.specs.Spending.{QueryCosts};
-ghost use Rattle.pm_cost.specs.Weights.{GrowCosts, HitsCost, TellingCosts};
+ghost use Rattle.pm_cost.specs.Weights.{GrowCosts, HitsCost, TellingCosts, UnreadAreFew};
 
 /// In each world that a legal run reaches, deliveries alone take at most two Asks and Finishes of a range query for each
 /// communication process, and the Finishes that are on their way.
@@ -38,4 +42,15 @@ pub fn hits_cost()
 /// must not go back to where it came from.
 pub fn a_delivery_costs_one()
     ensures falls { (p : Plan) → IsValid p → DeliveriesCost p }
+{}
+
+/// In each world that a legal run reaches, the records at all communication processes that don't have a read are no more
+/// than there are variables.
+pub fn unread_records_are_few()
+    ensures few { (p : Plan) (n : ℕ) (w : World) (m : Num) → IsValid p → UnreadAreFew p n w m }
+{}
+
+/// What a rule has asked in a step, by its kept senses, is no more than its program has.
+pub fn a_step_asks_no_more()
+    ensures asked { (r : Rule) (s : Stamp) (regs : Seq ℤ) (xs : Seq KeptSense) → AsksNoMore r s regs xs }
 {}
