@@ -1,5 +1,5 @@
 -- What a step has asked is no more than its program has: its senses are the program's, in order.
-use Rattle.std.proofs.Common.{◌≡◌, ℕ, zero, suc, ◌+◌, ◌≤◌, List, [], ◌∷◌, ◌++◌, length, slice_get, drop, refl, arith, ap, sym, ◌∙◌, subst, Option, Some, None, ℤ}
+use Rattle.std.proofs.Common.{◌≡◌, ℕ, zero, suc, ◌≤◌, List, [], ◌∷◌, ◌++◌, length, slice_get, drop, refl, arith, ap, sym, subst, Option, Some, None, ℤ}
 use Rattle.pm_base.specs.declared.program.Sense.{Sense}
 use Rattle.pm_base.specs.declared.program.Sense.TheVariants.{Read, Scan}
 use Rattle.pm_base.specs.declared.program.SenseRow.{SenseRow}

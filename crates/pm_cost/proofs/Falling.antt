@@ -1,6 +1,6 @@
 -- A delivery at a communication process lowers what is left to pay by one at least, where no read and no write of a
 -- variable is sent back.
-use Rattle.std.proofs.Common.{◌≡◌, ℕ, zero, suc, ◌+◌, ◌*◌, ◌<◌, ◌≤◌, inl, inr, ◌==◌, Bool, true, false, cond, not, ◌&&◌, ◌||◌, List, [], ◌∷◌, ◌++◌, map, filter, length, get_or, set, refl, arith, ap, sym, ◌∙◌, subst, Option, Some, None, get_or-set_other, get_or-set_same, length-set}
+use Rattle.std.proofs.Common.{◌≡◌, ℕ, zero, suc, ◌+◌, ◌*◌, ◌<◌, ◌≤◌, inl, inr, ◌==◌, Bool, true, false, cond, not, ◌||◌, List, [], ◌∷◌, ◌++◌, map, filter, length, set, refl, arith, ap, sym, ◌∙◌, subst, Option, Some, None, get_or-set_other, get_or-set_same, length-set}
 use Rattle.std.proofs.lemmas.Bool.{and_parts, cases_eq, cond_both}
 use Rattle.std.proofs.lemmas.Bool.Decides.{nat_tests}
 use Rattle.pm_base.specs.Layouts.{class_row}
@@ -21,7 +21,6 @@ use Rattle.pm_periods.specs.Records.{settled}
 use Rattle.pm_periods.specs.Rows.{key_lt}
 use Rattle.pm_plan.specs.Plans.{IsValid}
 use Rattle.pm_plan.specs.declared.plan.Plan.{Plan}
-use Rattle.pm_ranges.specs.Known.{Known}
 use Rattle.pm_routes.specs.Routings.{counted, is_drawn}
 use Rattle.pm_routes.specs.declared.way.Way.{Way}
 use Rattle.pm_routes.specs.declared.way.Way.TheVariants as way
@@ -29,7 +28,7 @@ use Rattle.pm_tables.specs.Tables.{may_hold}
 use Rattle.pm_queries.specs.Queries.{add_reg, ask_of, behind_reg, finish_if, finish_in, finish_one, has, has_reg, registered_key, without}
 use Rattle.pm_queries.specs.declared.registered.Registered.{Registered}
 use Rattle.pm_queries.specs.declared.registered.Sent.{Sent}
-use Rattle.pm_clp.specs.Clps.{ClpSends, ClpState, and_then, at_record, catching, clp_after, counting, forwards, installed, leaves, leaving, no_clp_sends, on_record, on_way, queries_watch, rec_at, reg_of, registered, sent_on, take_put, take_watch, telling, to_agent, watch_all, watch_if, way_of, with_count}
+use Rattle.pm_clp.specs.Clps.{ClpSends, ClpState, and_then, at_record, clp_after, counting, forwards, installed, leaves, leaving, no_clp_sends, on_record, on_way, queries_watch, rec_at, reg_of, registered, sent_on, take_put, take_watch, telling, to_agent, watch_all, watch_if, way_of, with_count}
 use Rattle.pm_sim.proofs.Movings.{drawn_port}
 use Rattle.pm_sim.proofs.Places.{in_range, process_clp}
 use Rattle.pm_sim.proofs.Promised.{plan_fits}
@@ -38,7 +37,7 @@ use Rattle.pm_sim.proofs.Trims.{filter_in}
 use Rattle.pm_sim.proofs.Wholes.{first_whole}
 use Rattle.pm_sim.specs.Routings.{ForClp, IsClp, TreeOk}
 use Rattle.pm_sim.specs.Sims.{In, class_at, vars_of}
-use Rattle.pm_sim.specs.Worlds.{Process, clps_of, home, hub_of, number, ports, process}
+use Rattle.pm_sim.specs.Worlds.{Process, clps_of, hub_of, number, ports, process}
 use Rattle.pm_sim.specs.Worlds.Process.{AtAgent, AtClp}
 use Rattle.pm_calm.specs.Phases.{ClpAt, MailAt, MoveAt, Phase, RecAt, WriteAt, is_over}
 use Rattle.pm_calm.specs.Phases.Phase.{Idle, Single, Range}
@@ -363,161 +362,161 @@ write_moves (Single n x) l = tt
 write_moves (Range n i w) l = absurd l
 
 module _ (p : Plan) (tree : TreeOk p) (c : ℕ) (lc : c < clps_of p) (s : Stamp) (over : Num → ℕ → Window → Type 0)
-    where
-  abbrev Falls : Phase → Process → Message → ClpState → Type 0
-  Falls ph f m x = suc (left_of p c ph (clp_after (hub_of p c) (number p f) m x))
-      ≤ weight p (AtClp c) f m + regs_weight p c x.queries + hits_left p ph x
+  where
+    abbrev Falls : Phase → Process → Message → ClpState → Type 0
+    Falls ph f m x = suc (left_of p c ph (clp_after (hub_of p c) (number p f) m x))
+        ≤ weight p (AtClp c) f m + regs_weight p c x.queries + hits_left p ph x
 
-  -- where no hits are to come
-  plainly : (ph : Phase) → MoveAt ph → (n : ℕ) (x : ClpState) (r : ClpSends)
-      → suc (weights p c r.sent + regs_weight p c r.clp.queries) ≤ n + regs_weight p c x.queries
-      → suc (left_of p c ph r) ≤ n + regs_weight p c x.queries + hits_left p ph x
-  plainly ph l n x r le =
-      (let a = no_hits p ph l x in let b = no_hits p ph l r.clp in omega (arith, le, a, b))
+    -- where no hits are to come
+    plainly : (ph : Phase) → MoveAt ph → (n : ℕ) (x : ClpState) (r : ClpSends)
+        → suc (weights p c r.sent + regs_weight p c r.clp.queries) ≤ n + regs_weight p c x.queries
+        → suc (left_of p c ph r) ≤ n + regs_weight p c x.queries + hits_left p ph x
+    plainly ph l n x r le =
+        (let a = no_hits p ph l x in let b = no_hits p ph l r.clp in omega (arith, le, a, b))
 
-  abbrev Lead : ClpState → Type 0
-  Lead x = (v e : ℕ) → way_of v x ≡ way.Port e → In e (ports p c)
+    abbrev Lead : ClpState → Type 0
+    Lead x = (v e : ℕ) → way_of v x ≡ way.Port e → In e (ports p c)
 
-  put_falls : (ph : Phase) → WriteAt ph → (f : Process) → LinkOk p (AtClp c) f → (n : Num) (z : Stamp) (v : ℕ)
-      (g : Change) → z ≡ s → (x : ClpState) → Recs p tree c lc s over x → x.routing.ports ≡ ports p c → Lead x
-      → Onwards f (message.Put n z v g) x → Falls ph f (message.Put n z v g) x
-  put_falls ph wr f link n z v g es x h ps lead on =
-      plainly ph (write_moves ph wr) (away p (AtClp c) f + clps_of p) x
-      (clp_after (hub_of p c) (number p f) (message.Put n z v g) x) (go (way_of v x) refl)
-    where
-      y : PutRow
-      y = record { num = n; stamp = z; change = g }
+    put_falls : (ph : Phase) → WriteAt ph → (f : Process) → LinkOk p (AtClp c) f → (n : Num) (z : Stamp) (v : ℕ)
+        (g : Change) → z ≡ s → (x : ClpState) → Recs p tree c lc s over x → x.routing.ports ≡ ports p c → Lead x
+        → Onwards f (message.Put n z v g) x → Falls ph f (message.Put n z v g) x
+    put_falls ph wr f link n z v g es x h ps lead on =
+        plainly ph (write_moves ph wr) (away p (AtClp c) f + clps_of p) x
+        (clp_after (hub_of p c) (number p f) (message.Put n z v g) x) (go (way_of v x) refl)
+      where
+        y : PutRow
+        y = record { num = n; stamp = z; change = g }
 
-      Few : ClpSends → Type 0
-      Few r = suc (weights p c r.sent + regs_weight p c r.clp.queries)
-          ≤ away p (AtClp c) f + clps_of p + regs_weight p c x.queries
+        Few : ClpSends → Type 0
+        Few r = suc (weights p c r.sent + regs_weight p c r.clp.queries)
+            ≤ away p (AtClp c) f + clps_of p + regs_weight p c x.queries
 
-      go : (o : Way) → way_of v x ≡ o → Few (on_way (hub_of p c) o (message.Put n z v g) x (λ w.
-          and_then (and_then (at_record (hub_of p c) v (take_put v (record { num = n; stamp = z; change = g })) w)
-          (telling (hub_of p c) v z)) (counting (hub_of p c) v (number p f))))
-      go (way.Port e) q =
-          let i = lead v e q in
-          let a = away_next p tree c lc f link e i (λ k. on e q k) in
-          let b : weight p (process p e) (AtClp c) (message.Put n z v g) ≡ side p c e + clps_of p =
-          ap (λ k. weight p k (AtClp c) (message.Put n z v g)) (process_clp p e (tree.inside c e i)) in
-          omega (arith, a, b)
-      go way.Here q =
-          let a = put_here p tree c lc s over v (number p f) y es x h ps in
-          let b = away_some p tree c lc f link in omega (arith, a, b)
+        go : (o : Way) → way_of v x ≡ o → Few (on_way (hub_of p c) o (message.Put n z v g) x (λ w.
+            and_then (and_then (at_record (hub_of p c) v (take_put v (record { num = n; stamp = z; change = g })) w)
+            (telling (hub_of p c) v z)) (counting (hub_of p c) v (number p f))))
+        go (way.Port e) q =
+            let i = lead v e q in
+            let a = away_next p tree c lc f link e i (λ k. on e q k) in
+            let b : weight p (process p e) (AtClp c) (message.Put n z v g) ≡ side p c e + clps_of p =
+            ap (λ k. weight p k (AtClp c) (message.Put n z v g)) (process_clp p e (tree.inside c e i)) in
+            omega (arith, a, b)
+        go way.Here q =
+            let a = put_here p tree c lc s over v (number p f) y es x h ps in
+            let b = away_some p tree c lc f link in omega (arith, a, b)
 
-  one_falls : (ph : Phase) → MoveAt ph → (f : Process) → LinkOk p (AtClp c) f → (k : Num) (z : Stamp) (v : ℕ)
-      → z ≡ s → k.agent < length p.agents → (x : ClpState) → Recs p tree c lc s over x
-      → x.routing.ports ≡ ports p c → Lead x
-      → Onwards f (message.Ask k z (query.One v)) x → Falls ph f (message.Ask k z (query.One v)) x
-  one_falls ph l f link k z v es la x h ps lead on =
-      plainly ph l (away p (AtClp c) f + clps_of p + 1) x
-      (clp_after (hub_of p c) (number p f) (message.Ask k z (query.One v)) x) (go (way_of v x) refl)
-    where
-      Few : ClpSends → Type 0
-      Few r = suc (weights p c r.sent + regs_weight p c r.clp.queries)
-          ≤ away p (AtClp c) f + clps_of p + 1 + regs_weight p c x.queries
+    one_falls : (ph : Phase) → MoveAt ph → (f : Process) → LinkOk p (AtClp c) f → (k : Num) (z : Stamp) (v : ℕ)
+        → z ≡ s → k.agent < length p.agents → (x : ClpState) → Recs p tree c lc s over x
+        → x.routing.ports ≡ ports p c → Lead x
+        → Onwards f (message.Ask k z (query.One v)) x → Falls ph f (message.Ask k z (query.One v)) x
+    one_falls ph l f link k z v es la x h ps lead on =
+        plainly ph l (away p (AtClp c) f + clps_of p + 1) x
+        (clp_after (hub_of p c) (number p f) (message.Ask k z (query.One v)) x) (go (way_of v x) refl)
+      where
+        Few : ClpSends → Type 0
+        Few r = suc (weights p c r.sent + regs_weight p c r.clp.queries)
+            ≤ away p (AtClp c) f + clps_of p + 1 + regs_weight p c x.queries
 
-      go : (o : Way) → way_of v x ≡ o → Few (on_way (hub_of p c) o (message.Ask k z (query.One v)) x (λ w.
-          and_then (at_record (hub_of p c) v (take_watch v k z whole) w) (counting (hub_of p c) v (number p f))))
-      go (way.Port e) q =
-          let i = lead v e q in
-          let a = away_next p tree c lc f link e i (λ k'. on e q k') in
-          let b : weight p (process p e) (AtClp c) (message.Ask k z (query.One v)) ≡ side p c e + clps_of p + 1 =
-          ap (λ k'. weight p k' (AtClp c) (message.Ask k z (query.One v))) (process_clp p e (tree.inside c e i)) in
-          omega (arith, a, b)
-      go way.Here q =
-          let a = one_here p tree c lc s over v (number p f) k z whole es la x h ps in
-          let b = away_some p tree c lc f link in omega (arith, a, b)
+        go : (o : Way) → way_of v x ≡ o → Few (on_way (hub_of p c) o (message.Ask k z (query.One v)) x (λ w.
+            and_then (at_record (hub_of p c) v (take_watch v k z whole) w) (counting (hub_of p c) v (number p f))))
+        go (way.Port e) q =
+            let i = lead v e q in
+            let a = away_next p tree c lc f link e i (λ k'. on e q k') in
+            let b : weight p (process p e) (AtClp c) (message.Ask k z (query.One v)) ≡ side p c e + clps_of p + 1 =
+            ap (λ k'. weight p k' (AtClp c) (message.Ask k z (query.One v))) (process_clp p e (tree.inside c e i)) in
+            omega (arith, a, b)
+        go way.Here q =
+            let a = one_here p tree c lc s over v (number p f) k z whole es la x h ps in
+            let b = away_some p tree c lc f link in omega (arith, a, b)
 
-  -- a query that is registered already costs its delivery alone; else what watching costs and leaves is given
-  class_falls : (ph : Phase) (f : Process) → LinkOk p (AtClp c) f → (k : Num) (z : Stamp) (j : ℕ) (u : Window)
-      → (x : ClpState)
-      → (weights p c (watch_all (hub_of p c) k z u (class_row p.layout.classes j).first
-      (class_row p.layout.classes j).count x).sent
-      + hits_left p ph (watch_all (hub_of p c) k z u (class_row p.layout.classes j).first
-      (class_row p.layout.classes j).count x).clp ≤ hits_left p ph x)
-      → Falls ph f (message.Ask k z (query.Class j u)) x
-  class_falls ph f link k z j u x le =
-      let row = class_row p.layout.classes j in
-      let s1 : ClpSends = watch_all (hub_of p c) k z u row.first row.count x in
-      let r : ClpSends = registered (hub_of p c) (number p f) k z j u s1.clp in
-      let qs : regs_weight p c s1.clp.queries ≡ regs_weight p c x.queries =
-      ap (regs_weight p c) (watch_queries (hub_of p c) k k z u row.first row.count x) in
-      let a = registered_cost p tree c lc (number p f) k z j u s1.clp in
-      let b = away_others p tree c lc f link in
-      let d = away_some p tree c lc f link in
-      let w = weights_append p c s1.sent r.sent in
-      let hs = hits_same p ph s1.clp r.clp refl in
-      cond_both (has_reg k x.queries) (no_clp_sends x)
-      (and_then s1 (registered (hub_of p c) (number p f) k z j u))
-      (λ (y : ClpSends). suc (left_of p c ph y) ≤ 2 * away p (AtClp c) f + regs_weight p c x.queries
-      + hits_left p ph x)
-      (λ _. omega (arith, d)) (λ _. omega (arith, le, a, b, w, qs, hs))
+    -- a query that is registered already costs its delivery alone; else what watching costs and leaves is given
+    class_falls : (ph : Phase) (f : Process) → LinkOk p (AtClp c) f → (k : Num) (z : Stamp) (j : ℕ) (u : Window)
+        → (x : ClpState)
+        → (weights p c (watch_all (hub_of p c) k z u (class_row p.layout.classes j).first
+        (class_row p.layout.classes j).count x).sent
+        + hits_left p ph (watch_all (hub_of p c) k z u (class_row p.layout.classes j).first
+        (class_row p.layout.classes j).count x).clp ≤ hits_left p ph x)
+        → Falls ph f (message.Ask k z (query.Class j u)) x
+    class_falls ph f link k z j u x le =
+        let row = class_row p.layout.classes j in
+        let s1 : ClpSends = watch_all (hub_of p c) k z u row.first row.count x in
+        let r : ClpSends = registered (hub_of p c) (number p f) k z j u s1.clp in
+        let qs : regs_weight p c s1.clp.queries ≡ regs_weight p c x.queries =
+        ap (regs_weight p c) (watch_queries (hub_of p c) k k z u row.first row.count x) in
+        let a = registered_cost p tree c lc (number p f) k z j u s1.clp in
+        let b = away_others p tree c lc f link in
+        let d = away_some p tree c lc f link in
+        let w = weights_append p c s1.sent r.sent in
+        let hs = hits_same p ph s1.clp r.clp refl in
+        cond_both (has_reg k x.queries) (no_clp_sends x)
+        (and_then s1 (registered (hub_of p c) (number p f) k z j u))
+        (λ (y : ClpSends). suc (left_of p c ph y) ≤ 2 * away p (AtClp c) f + regs_weight p c x.queries
+        + hits_left p ph x)
+        (λ _. omega (arith, d)) (λ _. omega (arith, le, a, b, w, qs, hs))
 
-  -- the query is over
-  over_falls : (ph : Phase) → MoveAt ph → OfRange p → (f : Process) → LinkOk p (AtClp c) f → (k : Num) (z : Stamp)
-      (j : ℕ) (u : Window) → z ≡ s → over k j u → (x : ClpState) → Recs p tree c lc s over x
-      → Falls ph f (message.Ask k z (query.Class j u)) x
-  over_falls ph l rg f link k z j u es ov x h =
-      let row = class_row p.layout.classes j in
-      let s1 : ClpSends = watch_all (hub_of p c) k z u row.first row.count x in
-      let a = silent_all p tree c lc s over rg k z j u es ov row.first row.count (omega arith) (omega arith) x h in
-      let n = a.none in
-      let b = no_hits p ph l x in
-      let d = no_hits p ph l s1.clp in
-      class_falls ph f link k z j u x (omega (arith, n, b, d))
+    -- the query is over
+    over_falls : (ph : Phase) → MoveAt ph → OfRange p → (f : Process) → LinkOk p (AtClp c) f → (k : Num) (z : Stamp)
+        (j : ℕ) (u : Window) → z ≡ s → over k j u → (x : ClpState) → Recs p tree c lc s over x
+        → Falls ph f (message.Ask k z (query.Class j u)) x
+    over_falls ph l rg f link k z j u es ov x h =
+        let row = class_row p.layout.classes j in
+        let s1 : ClpSends = watch_all (hub_of p c) k z u row.first row.count x in
+        let a = silent_all p tree c lc s over rg k z j u es ov row.first row.count (omega arith) (omega arith) x h in
+        let n = a.none in
+        let b = no_hits p ph l x in
+        let d = no_hits p ph l s1.clp in
+        class_falls ph f link k z j u x (omega (arith, n, b, d))
 
-  -- the query is open
-  open_falls : (f : Process) → LinkOk p (AtClp c) f → (k : Num) (z : Stamp) (j : ℕ) (u : Window) (n : Num) (i : ℕ)
-      (w : Window) → z ≡ s → k ≡ n → k.agent < length p.agents → (x : ClpState) → Recs p tree c lc s over x
-      → Falls (Range n i w) f (message.Ask k z (query.Class j u)) x
-  open_falls f link k z j u n i w es ek la x h =
-      subst (λ t. Falls (Range n i w) f (message.Ask k t (query.Class j u)) x) (sym es)
-      (subst (λ m. Falls (Range m i w) f (message.Ask k s (query.Class j u)) x) ek
-      (let row = class_row p.layout.classes j in
-      let a = watch_cost p tree c lc s over k u la row.first row.count x h in
-      class_falls (Range k i w) f link k s j u x a))
+    -- the query is open
+    open_falls : (f : Process) → LinkOk p (AtClp c) f → (k : Num) (z : Stamp) (j : ℕ) (u : Window) (n : Num) (i : ℕ)
+        (w : Window) → z ≡ s → k ≡ n → k.agent < length p.agents → (x : ClpState) → Recs p tree c lc s over x
+        → Falls (Range n i w) f (message.Ask k z (query.Class j u)) x
+    open_falls f link k z j u n i w es ek la x h =
+        subst (λ t. Falls (Range n i w) f (message.Ask k t (query.Class j u)) x) (sym es)
+        (subst (λ m. Falls (Range m i w) f (message.Ask k s (query.Class j u)) x) ek
+        (let row = class_row p.layout.classes j in
+        let a = watch_cost p tree c lc s over k u la row.first row.count x h in
+        class_falls (Range k i w) f link k s j u x a))
 
-  finish_falls : (ph : Phase) (f : Process) (k : Num) (z : Stamp) (x : ClpState) → Falls ph f (message.Finish k z) x
-  finish_falls ph f k z x =
-      let a = finish_cost p tree c lc k (number p f) x.queries in
-      let hs = hits_same p ph x (clp_after (hub_of p c) (number p f) (message.Finish k z) x).clp refl in
-      omega (arith, a, hs)
+    finish_falls : (ph : Phase) (f : Process) (k : Num) (z : Stamp) (x : ClpState) → Falls ph f (message.Finish k z) x
+    finish_falls ph f k z x =
+        let a = finish_cost p tree c lc k (number p f) x.queries in
+        let hs = hits_same p ph x (clp_after (hub_of p c) (number p f) (message.Finish k z) x).clp refl in
+        omega (arith, a, hs)
 
-  give_falls : (ph : Phase) (f : Process) (g : GiveRow) → g.num.agent < length p.agents → (x : ClpState)
-      → Falls ph f (message.Give g) x
-  give_falls ph f g la x = (let a = give_goes p tree c lc g la in omega (arith, a))
+    give_falls : (ph : Phase) (f : Process) (g : GiveRow) → g.num.agent < length p.agents → (x : ClpState)
+        → Falls ph f (message.Give g) x
+    give_falls ph f g la x = (let a = give_goes p tree c lc g la in omega (arith, a))
 
-  grow_falls : (ph : Phase) → WriteAt ph → (f : Process) → IsClp f → LinkOk p (AtClp c) f → (k : ℕ) (z : Stamp)
-      (until : Option Stamp) (u : Window) (x : ClpState) → Falls ph f (message.Grow k z until u) x
-  grow_falls ph wr (AtAgent a) h link k z until u x = absurd h
-  grow_falls ph wr (AtClp d) h link k z until u x =
-      let a = grow_cost p tree c lc d k z until u x (tree.inside c d link) (tree.back c d lc link) in
-      plainly ph (write_moves ph wr) (side p d c) x (clp_after (hub_of p c) d (message.Grow k z until u) x)
-      (omega (arith, a))
+    grow_falls : (ph : Phase) → WriteAt ph → (f : Process) → IsClp f → LinkOk p (AtClp c) f → (k : ℕ) (z : Stamp)
+        (until : Option Stamp) (u : Window) (x : ClpState) → Falls ph f (message.Grow k z until u) x
+    grow_falls ph wr (AtAgent a) h link k z until u x = absurd h
+    grow_falls ph wr (AtClp d) h link k z until u x =
+        let a = grow_cost p tree c lc d k z until u x (tree.inside c d link) (tree.back c d lc link) in
+        plainly ph (write_moves ph wr) (side p d c) x (clp_after (hub_of p c) d (message.Grow k z until u) x)
+        (omega (arith, a))
 
-  move_falls : (ph : Phase) → MoveAt ph → (f : Process) (v : ℕ) (z : Stamp) (r : Parts) → RecAt p s over v r
-      → (x : ClpState) → Recs p tree c lc s over x
-      → ((y : Registered) → In y x.queries → (y.stamp ≡ s) × over y.num y.class y.window)
-      → Falls ph f (message.Move v z r) x
-  move_falls ph l f v z r a x h hq =
-      let y : ClpState = installed (hub_of p c) (number p f) v (settled r) x in
-      let b = silent_joins p tree c lc s over v x.queries hq y here in
-      let n = b.none in
-      let q = ap (regs_weight p c) b.regs in
-      plainly ph l 1 x (queries_watch (hub_of p c) v x.queries y) (omega (arith, n, q))
-    where
-      here : Recs p tree c lc s over (installed (hub_of p c) (number p f) v (settled r) x)
-      here w y e = elim (cases_eq w v) [
-        | inr ne ↦ h w y (sym (get_or-set_other x.records v w (Some (settled r)) None ne) ∙ e)
-        | inl g ↦ (let e' : rec_at (set x.records v (Some (settled r))) v ≡ Some y =
-            ap (rec_at (set x.records v (Some (settled r)))) (sym g) ∙ e in
-            let lt : v < length x.records = (let b = in_range (set x.records v (Some (settled r))) v y e' in
-            let n = length-set x.records v (Some (settled r)) in omega (arith, b, n)) in
-            subst (λ k. RecAt p s over k y) (sym g) (subst (RecAt p s over v) (some_rec (settled r) y
-            (sym (get_or-set_same x.records v (Some (settled r)) None lt) ∙ e'))
-            (subst (RecAt p s over v) (sym (settled-same r a.solid)) a)))
-      ]
+    move_falls : (ph : Phase) → MoveAt ph → (f : Process) (v : ℕ) (z : Stamp) (r : Parts) → RecAt p s over v r
+        → (x : ClpState) → Recs p tree c lc s over x
+        → ((y : Registered) → In y x.queries → (y.stamp ≡ s) × over y.num y.class y.window)
+        → Falls ph f (message.Move v z r) x
+    move_falls ph l f v z r a x h hq =
+        let y : ClpState = installed (hub_of p c) (number p f) v (settled r) x in
+        let b = silent_joins p tree c lc s over v x.queries hq y here in
+        let n = b.none in
+        let q = ap (regs_weight p c) b.regs in
+        plainly ph l 1 x (queries_watch (hub_of p c) v x.queries y) (omega (arith, n, q))
+      where
+        here : Recs p tree c lc s over (installed (hub_of p c) (number p f) v (settled r) x)
+        here w y e = elim (cases_eq w v) [
+          | inr ne ↦ h w y (sym (get_or-set_other x.records v w (Some (settled r)) None ne) ∙ e)
+          | inl g ↦ (let e' : rec_at (set x.records v (Some (settled r))) v ≡ Some y =
+              ap (rec_at (set x.records v (Some (settled r)))) (sym g) ∙ e in
+              let lt : v < length x.records = (let b = in_range (set x.records v (Some (settled r))) v y e' in
+              let n = length-set x.records v (Some (settled r)) in omega (arith, b, n)) in
+              subst (λ k. RecAt p s over k y) (sym g) (subst (RecAt p s over v) (some_rec (settled r) y
+              (sym (get_or-set_same x.records v (Some (settled r)) None lt) ∙ e'))
+              (subst (RecAt p s over v) (sym (settled-same r a.solid)) a)))
+        ]
 
 -- a delivery at a communication process of the lowest run
 pub clp_falls : (p : Plan) (tree : TreeOk p) → OfRange p → (c : ℕ) (s : Stamp) (over : Num → ℕ → Window → Type 0)

@@ -1,5 +1,5 @@
 -- What telling costs: a Grow goes over each edge away from where it began at most once.
-use Rattle.std.proofs.Common.{◌≡◌, ℕ, suc, ◌+◌, ◌*◌, ◌<◌, ◌≤◌, inl, inr, ◌==◌, Bool, true, false, cond, not, ◌&&◌, ◌||◌, List, [], ◌∷◌, ◌++◌, map, filter, refl, arith, ap, sym, ◌∙◌, subst, Option, Some, None}
+use Rattle.std.proofs.Common.{◌≡◌, ℕ, ◌+◌, ◌*◌, ◌<◌, ◌≤◌, inl, inr, ◌==◌, Bool, true, false, cond, not, ◌&&◌, ◌||◌, List, [], ◌∷◌, ◌++◌, map, filter, refl, arith, ap, sym, ◌∙◌, subst, Option, Some, None}
 use Rattle.std.proofs.lemmas.Bool.{and_parts, cond_both}
 use Rattle.std.proofs.lemmas.Bool.Decides.{nat_tests}
 use Rattle.pm_base.specs.Stamps.{is_after, stamp_lt}
@@ -21,7 +21,6 @@ use Rattle.pm_queries.specs.Queries.{ask_of, has, without}
 use Rattle.pm_queries.specs.declared.registered.Registered.{Registered}
 use Rattle.pm_queries.specs.declared.registered.Sent.{Sent}
 use Rattle.pm_clp.specs.Clps.{ClpSends, ClpState, catches, catching, caught, class_at, clp_after, grow_bound, no_clp_sends, rec_at, tell, tell_one, tell_periods, tell_record, telling}
-use Rattle.pm_sim.proofs.Firsts.{PlanFits}
 use Rattle.pm_sim.proofs.Places.{process_clp}
 use Rattle.pm_sim.proofs.Promised.{plan_fits}
 use Rattle.pm_sim.proofs.Stamps.{lt_false}
@@ -29,9 +28,8 @@ use Rattle.pm_sim.proofs.Trims.{in_filter}
 use Rattle.pm_sim.proofs.Wholes.{first_whole}
 use Rattle.pm_sim.specs.Routings.{TreeOk}
 use Rattle.pm_sim.specs.Sims.{In}
-use Rattle.pm_sim.specs.Worlds.{Process, clps_of, hub_of, ports, process}
+use Rattle.pm_sim.specs.Worlds.{clps_of, hub_of, ports, process}
 use Rattle.pm_sim.specs.Worlds.Process.{AtClp}
-use Rattle.pm_cost.specs.Spending.{waits_rest}
 use Rattle.pm_cost.specs.Weights.{GrowCosts, PutsAt, TellingCosts, late, reg_weight, regs_weight, side, sides, weight, weights}
 use Rattle.pm_cost.proofs.TreeSides.{all_sides, side_next}
 
@@ -217,8 +215,10 @@ module _ (p : Plan) (tree : TreeOk p) (c : ℕ) (lc : c < clps_of p) where
       ap (λ z. stamp_lt s z) (h y (inl refl)) ∙ lt_false s s (grind arith) in
       let f : (is_live r.cuts y && is_after (Some s) y.stamp) ≡ false =
       none (is_live r.cuts y) (is_after (Some s) y.stamp) e in
-      ap (λ b. cond b (record { when = record { from = Some s; until = Some y.stamp };
-      value = record_value r y.stamp } ∷ periods_of r (Some y.stamp) ps) (periods_of r (Some s) ps)) f
+      ap (λ b. cond b (record {
+        when = record { from = Some s; until = Some y.stamp };
+        value = record_value r y.stamp;
+      } ∷ periods_of r (Some y.stamp) ps) (periods_of r (Some s) ps)) f
       ∙ one_period s r ps (λ z j. h z (inr j))
     where
       none : (a b : Bool) → b ≡ false → (a && b) ≡ false

@@ -1,9 +1,8 @@
 -- What the hits of a range query cost: at most one for each record that didn't have the read, and each hit at most as
 -- many deliveries as there are communication processes.
-use Rattle.std.proofs.Common.{◌≡◌, ℕ, zero, suc, ◌+◌, ◌*◌, ◌<◌, ◌≤◌, inl, inr, ◌==◌, Bool, true, false, cond, not, ◌||◌, List, [], ◌∷◌, ◌++◌, map, length, get_or, set, refl, arith, ap, sym, ◌∙◌, subst, Option, Some, None, get_or-set_other, get_or-set_same}
+use Rattle.std.proofs.Common.{◌≡◌, ℕ, zero, suc, ◌+◌, ◌*◌, ◌<◌, ◌≤◌, inl, inr, ◌==◌, Bool, true, false, cond, not, ◌||◌, List, [], ◌∷◌, map, length, get_or, set, refl, arith, ap, sym, ◌∙◌, subst, Option, Some, None, get_or-set_other, get_or-set_same}
 use Rattle.std.proofs.lemmas.Bool.{cases_eq}
 use Rattle.std.proofs.lemmas.Bool.Decides.{nat_tests}
-use Rattle.pm_base.specs.Stamps.{num_eq}
 use Rattle.pm_base.specs.declared.rows.GiveRow.{GiveRow}
 use Rattle.pm_base.specs.declared.rows.Parts.{Parts}
 use Rattle.pm_base.specs.declared.stamp.Num.{Num}
@@ -15,14 +14,13 @@ use Rattle.pm_periods.specs.Rows.{has_num, read_key}
 use Rattle.pm_plan.specs.Plans.{IsValid, parents}
 use Rattle.pm_plan.specs.Trees.{hop}
 use Rattle.pm_plan.specs.declared.plan.Plan.{Plan}
-use Rattle.pm_queries.specs.declared.registered.Sent.{Sent}
 use Rattle.pm_clp.specs.Clps.{ClpSends, ClpState, at_record, on_record, rec_at, take_watch, to_agent, watch_all}
 use Rattle.pm_sim.proofs.Places.{in_range, process_agent, process_clp, towards_at}
 use Rattle.pm_sim.proofs.Stamps.{num_eq_self}
 use Rattle.pm_sim.proofs.Tellings.{add_read_has, given_has}
 use Rattle.pm_sim.specs.Routings.{TreeOk, toward}
 use Rattle.pm_sim.specs.Sims.{In, has_read, one_if}
-use Rattle.pm_sim.specs.Worlds.{Process, clps_of, home, hub_of, ports, process, to_agents, towards}
+use Rattle.pm_sim.specs.Worlds.{clps_of, home, hub_of, ports, process, to_agents, towards}
 use Rattle.pm_sim.specs.Worlds.Process.{AtAgent, AtClp}
 use Rattle.pm_calm.specs.Phases.{RecAt}
 use Rattle.pm_calm.proofs.Records.{watch_at, watch_once}

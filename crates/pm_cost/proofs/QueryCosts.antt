@@ -1,5 +1,5 @@
 -- What a range query costs at one communication process: an Ask and a Finish, whatever comes.
-use Rattle.std.proofs.Common.{◌≡◌, ℕ, zero, suc, ◌+◌, ◌≤◌, inl, inr, ◌==◌, Bool, true, false, cond, not, ◌||◌, List, [], ◌∷◌, ◌++◌, map, filter, get_or, refl, arith, ap, sym, ◌∙◌, subst, Option, Some, None}
+use Rattle.std.proofs.Common.{◌≡◌, ℕ, zero, suc, ◌+◌, ◌≤◌, inl, inr, ◌==◌, Bool, true, false, cond, ◌||◌, List, [], ◌∷◌, ◌++◌, map, filter, refl, arith, ap, sym, ◌∙◌, subst, Option, Some, None}
 use Rattle.std.proofs.lemmas.Bool.{cases_Bool, cond_both}
 use Rattle.pm_base.specs.Layouts.{class_row}
 use Rattle.pm_base.specs.Stamps.{num_eq}
@@ -58,7 +58,7 @@ module _ (h : Hub) (m : Num) where
   chain x r f a e = (let o = e r.clp in (
     o.0 ∙ a.0,
     tally_append (λ (y : Sent). is_end m y.message) r.sent (f r.clp).sent
-    ∙ (let b = a.1 in let d = o.1 in omega arith),
+        ∙ (let b = a.1 in let d = o.1 in omega arith),
   ))
 
   gives_ends : (gs : List GiveRow) → ends (map (to_agent h) gs) ≡ 0
@@ -214,7 +214,7 @@ module _ (h : Hub) (m : Num) where
           → (reg_rest m (finish_one d r rs b).queries ≡ reg_rest m (r ∷ rs)) × (ends (finish_one d r rs b).sent ≡ 0)
       one f true = (
         ap (λ b. cond b (waits_rest (without d r.waits)) (reg_rest m rs)) f
-        ∙ sym (ap (λ b. cond b (waits_rest r.waits) (reg_rest m rs)) f),
+            ∙ sym (ap (λ b. cond b (waits_rest r.waits) (reg_rest m rs)) f),
         ended_else r (without d r.waits) f,
       )
       one f false = (refl, refl)

@@ -1,5 +1,5 @@
 -- Along a legal run without a Commit a range query's Asks and Finishes cost at most two deliveries for each process.
-use Rattle.std.proofs.Common.{◌≡◌, ℕ, zero, suc, ◌+◌, ◌*◌, ◌<◌, ◌≤◌, inl, inr, Bool, true, false, cond, ◌||◌, List, [], ◌∷◌, map, length, get_or, set, refl, arith, ap, sym, ◌∙◌, subst, Option, Some, None, get_or-set_same, get_or-set_other}
+use Rattle.std.proofs.Common.{◌≡◌, ℕ, zero, suc, ◌+◌, ◌*◌, ◌<◌, ◌≤◌, inl, inr, Bool, true, false, ◌||◌, List, [], ◌∷◌, map, length, get_or, set, refl, arith, ap, sym, ◌∙◌, subst, Option, Some, None, get_or-set_same, get_or-set_other}
 use Rattle.std.proofs.lemmas.Bool.{cases_eq, cond_both}
 use Rattle.pm_base.specs.Stamps.{num_eq}
 use Rattle.pm_base.specs.declared.rows.Entry.{Entry}
@@ -7,14 +7,12 @@ use Rattle.pm_base.specs.declared.rows.Parts.{Parts}
 use Rattle.pm_base.specs.declared.run.Event.{Event}
 use Rattle.pm_base.specs.declared.run.Event.TheVariants as event
 use Rattle.pm_base.specs.declared.stamp.Num.{Num}
-use Rattle.pm_base.specs.declared.value.Query.TheVariants as query
 use Rattle.pm_message.specs.declared.Message.{Message}
 use Rattle.pm_message.specs.declared.Message.TheVariants as message
 use Rattle.pm_model.specs.declared.State.{State}
 use Rattle.pm_plan.specs.Plans.{IsValid}
 use Rattle.pm_plan.specs.declared.plan.Plan.{Plan}
 use Rattle.pm_queries.specs.declared.registered.Registered.{Registered}
-use Rattle.pm_queries.specs.declared.registered.Sent.{Sent}
 use Rattle.pm_alp.specs.Agents.{agent_after, no_agent}
 use Rattle.pm_clp.specs.Clps.{ClpSends, ClpState, clp_after}
 use Rattle.pm_sim.proofs.Hubs.{unregistered}
@@ -27,10 +25,10 @@ use Rattle.pm_sim.proofs.Wholes.{Whole, deliver_whole}
 use Rattle.pm_sim.specs.Journals.{Delivers}
 use Rattle.pm_sim.specs.Routings.{FitsAt, mail_to}
 use Rattle.pm_sim.specs.Sims.{In, one_if, tally}
-use Rattle.pm_sim.specs.Worlds.{Mail, Posted, Process, Taken, World, actor_of, addressed, after_event, after_events, arrives, clps_of, deliver, delivered, home, hub_of, mail, no_clp, number, posted, process, take_from}
+use Rattle.pm_sim.specs.Worlds.{Mail, Posted, Process, Taken, World, actor_of, addressed, after_events, arrives, clps_of, deliver, delivered, home, hub_of, mail, no_clp, number, posted, process, take_from}
 use Rattle.pm_sim.specs.Worlds.Process.{AtAgent, AtClp}
 use Rattle.pm_calm.proofs.Rounds.{reached_kept}
-use Rattle.pm_cost.specs.Spending.{QueryCosts, QuerySpends, ends_in, is_asked, is_end, query_rest, reg_rest, spent, spent_one, total, waits_rest}
+use Rattle.pm_cost.specs.Spending.{QueryCosts, ends_in, is_asked, is_end, query_rest, reg_rest, spent, spent_one, total, waits_rest}
 use Rattle.pm_cost.proofs.QueryCosts.{clp_cost}
 
 total_same : (n : ℕ) (f g : ℕ → ℕ) → ((d : ℕ) → d < n → g d ≡ f d) → total n g ≡ total n f

@@ -1,5 +1,5 @@
 -- The records at all communication processes are at most as many as there are variables.
-use Rattle.std.proofs.Common.{◌≡◌, ℕ, zero, suc, ◌+◌, ◌<◌, ◌≤◌, inl, inr, Bool, true, false, not, List, [], ◌∷◌, get_or, length, refl, arith, ap, sym, ◌∙◌, subst, Option, Some, None}
+use Rattle.std.proofs.Common.{◌≡◌, ℕ, zero, suc, ◌+◌, ◌<◌, ◌≤◌, inl, inr, Bool, true, false, not, List, [], ◌∷◌, length, refl, arith, ap, sym, ◌∙◌, subst, Option, Some, None}
 use Rattle.std.proofs.lemmas.Bool.{cases_eq}
 use Rattle.pm_base.specs.declared.rows.Parts.{Parts}
 use Rattle.pm_base.specs.declared.stamp.Num.{Num}
@@ -11,7 +11,7 @@ use Rattle.pm_sim.proofs.Places.{Sim, clp_at}
 use Rattle.pm_sim.proofs.Promised.{plan_fits}
 use Rattle.pm_sim.specs.Routings.{stands_at}
 use Rattle.pm_sim.specs.Sims.{has_read, one_if}
-use Rattle.pm_sim.specs.Worlds.{World, clps_of, no_clp}
+use Rattle.pm_sim.specs.Worlds.{World, clps_of}
 use Rattle.pm_calm.proofs.Rounds.{reached_kept}
 use Rattle.pm_cost.specs.Spending.{total}
 use Rattle.pm_cost.specs.Weights.{UnreadAreFew, is_unread, unread}

@@ -1,6 +1,5 @@
 -- What the lowest run may cost, in deliveries: a sum over the entries of the sequential run.
 use Rattle.std.specs.Prelude.{ℕ, suc, ◌+◌, ◌*◌, ◌≤◌, List, [], ◌∷◌, length, ℤ}
-use Rattle.pm_base.specs.declared.program.Program.{Program}
 use Rattle.pm_base.specs.declared.program.Sense.{Sense}
 use Rattle.pm_base.specs.declared.program.Sense.TheVariants.{Read, Scan}
 use Rattle.pm_base.specs.declared.program.SenseRow.{SenseRow}

@@ -1,5 +1,5 @@
 -- What a range query costs: the deliveries of its Asks and of its Finishes.
-use Rattle.std.specs.Prelude.{ℕ, zero, suc, ◌+◌, ◌*◌, ◌≤◌, Bool, true, false, ◌||◌, ◌≡◌, if◌then◌else◌}
+use Rattle.std.specs.Prelude.{ℕ, zero, suc, ◌+◌, ◌*◌, ◌≤◌, Bool, false, ◌||◌, if◌then◌else◌}
 use Rattle.std.specs.Prelude.{List, [], ◌∷◌, get_or, Option, Some, None}
 use Rattle.pm_base.specs.Stamps.{num_eq}
 use Rattle.pm_base.specs.declared.run.Event.{Event}
@@ -13,7 +13,7 @@ use Rattle.pm_queries.specs.declared.registered.Registered.{Registered}
 use Rattle.pm_sim.specs.Journals.{Delivers}
 use Rattle.pm_sim.specs.Reached.{Reached}
 use Rattle.pm_sim.specs.Sims.{one_if, tally}
-use Rattle.pm_sim.specs.Worlds.{Mail, Taken, World, after_event, after_events, clps_of, commit, is_legal_run, mail, no_clp, process, take_from}
+use Rattle.pm_sim.specs.Worlds.{Mail, Taken, World, after_event, after_events, clps_of, commit, mail, no_clp, process, take_from}
 
 -- the sum of f over the numbers below n
 abbrev pub total : ℕ → (ℕ → ℕ) → ℕ

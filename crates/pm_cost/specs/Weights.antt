@@ -1,7 +1,6 @@
 -- What a message, a registered query and a record may still cost, in deliveries, where nothing is rolled back.
-use Rattle.std.specs.Prelude.{ℕ, suc, ◌+◌, ◌*◌, ◌<◌, ◌≤◌, ◌==◌, ◌≡◌, Bool, true, false, not, ◌&&◌, ◌||◌}
+use Rattle.std.specs.Prelude.{ℕ, ◌+◌, ◌*◌, ◌<◌, ◌≤◌, ◌==◌, ◌≡◌, Bool, false, not, ◌&&◌, ◌||◌}
 use Rattle.std.specs.Prelude.{if◌then◌else◌, List, [], ◌∷◌, get_or, length, Option, Some, None}
-use Rattle.pm_base.specs.declared.rows.GiveRow.{GiveRow}
 use Rattle.pm_base.specs.declared.rows.Parts.{Parts}
 use Rattle.pm_base.specs.declared.rows.PutRow.{PutRow}
 use Rattle.pm_base.specs.declared.stamp.Num.{Num}
