@@ -7,3 +7,4 @@ pub mod Hits
 pub mod Falling
 pub mod Standing
 pub mod Credits
+pub mod Turning

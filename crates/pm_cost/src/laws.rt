@@ -12,6 +12,8 @@ ghost use Rattle.pm_sim.specs.Worlds.{World};
 ghost use Rattle.pm_cost.specs.Costs.{AsksNoMore};
 ghost use Rattle.pm_cost.specs.Falls.{DeliveriesCost};
 ghost use Rattle.pm_cost.specs.Spending.{QueryCosts};
+ghost use Rattle.pm_clp.specs.Clps.{Hub};
+ghost use Rattle.pm_cost.specs.Straight.{DeliveriesTurn};
 ghost use Rattle.pm_cost.specs.Weights.{GrowCosts, HitsCost, TellingCosts, UnreadAreFew};
 
 /// In each world that a legal run reaches, deliveries alone take at most two Asks and Finishes of a range query for each
@@ -53,4 +55,10 @@ pub fn unread_records_are_few()
 /// What a rule has asked in a step, by its kept senses, is no more than its program has.
 pub fn a_step_asks_no_more()
     ensures asked { (r : Rule) (s : Stamp) (regs : Seq ℤ) (xs : Seq KeptSense) → AsksNoMore r s regs xs }
+{}
+
+/// A delivery at a communication process changes the way of a variable only where the message is a read, a write or a
+/// Move of it, lets no more messages touch the variable than before, and sends on only along the variable's way.
+pub fn ways_turn_with_messages()
+    ensures turn { (h : Hub) → DeliveriesTurn h }
 {}

@@ -6,6 +6,6 @@ mod rows;
 
 pub use laws::{
     a_delivery_costs_one, a_grow_costs, a_range_query_costs, a_step_asks_no_more, hits_cost,
-    telling_costs, unread_records_are_few,
+    telling_costs, unread_records_are_few, ways_turn_with_messages,
 };
 pub use rows::{counting_costs, pruned_window_costs};

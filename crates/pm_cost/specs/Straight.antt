@@ -1,0 +1,69 @@
+-- No read and no write of a variable is ever sent back, where at most one message moves each variable.
+use Rattle.std.specs.Prelude.{ℕ, ◌==◌, ◌<◌, ◌≤◌, ◌≡◌, ◌⊎◌, Bool, true, false, List, get_or, length}
+use Rattle.pm_base.specs.declared.rows.Parts.{Parts}
+use Rattle.pm_base.specs.declared.stamp.Stamp.{Stamp}
+use Rattle.pm_base.specs.declared.value.Query.TheVariants as query
+use Rattle.pm_message.specs.declared.Message.{Message}
+use Rattle.pm_message.specs.declared.Message.TheVariants as message
+use Rattle.pm_plan.specs.declared.plan.Plan.{Plan}
+use Rattle.pm_queries.specs.declared.registered.Registered.{Registered}
+use Rattle.pm_queries.specs.declared.registered.Sent.{Sent}
+use Rattle.pm_routes.specs.declared.way.Way.TheVariants as way
+use Rattle.pm_clp.specs.Clps.{ClpSends, ClpState, Hub, clp_after, way_of}
+use Rattle.pm_sim.specs.Routings.{mail_to}
+use Rattle.pm_sim.specs.Sims.{In, one_if, tally}
+use Rattle.pm_sim.specs.Worlds.{Mail, World, clps_of, mail, no_clp}
+use Rattle.pm_sim.specs.Worlds.Process.{AtClp}
+
+-- the message is a read or a write of the variable on its way
+abbrev pub goes : ℕ → Message → Bool
+goes v (message.Put n z u g) = v == u
+goes v (message.Ask k z (query.One u)) = v == u
+goes v (message.Ask k z (query.Class j w)) = false
+goes v (message.Move u z r) = false
+goes v (message.Wake k z) = false
+goes v (message.Cut n z u) = false
+goes v (message.Give g) = false
+goes v (message.Finish k z) = false
+goes v (message.Grow k z u w) = false
+
+-- the message may move the variable, or moves it
+abbrev pub touches : ℕ → Message → Bool
+touches v (message.Put n z u g) = v == u
+touches v (message.Ask k z (query.One u)) = v == u
+touches v (message.Ask k z (query.Class j w)) = false
+touches v (message.Move u z r) = v == u
+touches v (message.Wake k z) = false
+touches v (message.Cut n z u) = false
+touches v (message.Give g) = false
+touches v (message.Finish k z) = false
+touches v (message.Grow k z u w) = false
+
+-- how many of these messages touch the variable
+abbrev pub touched : ℕ → List Sent → ℕ
+touched v ss = tally (λ (y : Sent). touches v y.message) ss
+
+-- what a delivery does to the way of a variable: no more messages touch it than before; its way changes only where the
+-- message touches it; what goes on goes that way; and a new way to a port is that of a Move
+pub record TurnsWay (v : ℕ) (m : Message) (x : ClpState) (r : ClpSends) : Type 0 where
+  pub few : touched v r.sent ≤ one_if (touches v m) 0
+  pub same : touches v m ≡ false → way_of v r.clp ≡ way_of v x
+  pub sent : (y : Sent) → In y r.sent → goes v y.message ≡ true → way_of v r.clp ≡ way.Port y.to
+  pub turns : (e : ℕ) → way_of v r.clp ≡ way.Port e → (way_of v x ≡ way.Port e)
+      ⊎ ((z : Stamp) × (q : Parts) × In (record { to = e; message = message.Move v z q }) r.sent)
+
+-- so it is of every delivery but that of a withdrawal
+abbrev pub DeliveriesTurn : Hub → Type 0
+DeliveriesTurn h = (v from : ℕ) (m : Message) (x : ClpState) → length x.records ≡ length x.routing.ways
+    → TurnsWay v m x (clp_after h from m x)
+
+-- of each variable at most one message on its way touches it; a read or a write that a communication process sent went
+-- the way that it still has; and two ways face each other only where a Move of the variable is between them
+pub record Straight (p : Plan) (w : World) : Type 0 where
+  pub once : (v : ℕ) → tally (λ (x : Mail). touches v x.message) (mail w.links) ≤ 1
+  pub ways : (v c d : ℕ) (m : Message) → In (mail_to (AtClp c) (AtClp d) m) (mail w.links) → goes v m ≡ true
+      → way_of v (get_or w.clps d no_clp) ≡ way.Port c
+  pub facing : (v c d : ℕ) → c < clps_of p → d < clps_of p
+      → way_of v (get_or w.clps c no_clp) ≡ way.Port d → way_of v (get_or w.clps d no_clp) ≡ way.Port c
+      → (z : Stamp) × (q : Parts) × (In (mail_to (AtClp d) (AtClp c) (message.Move v z q)) (mail w.links)
+      ⊎ In (mail_to (AtClp c) (AtClp d) (message.Move v z q)) (mail w.links))
