@@ -8,3 +8,4 @@ pub mod Falling
 pub mod Standing
 pub mod Credits
 pub mod Turning
+pub mod Straightness

@@ -395,3 +395,15 @@ all_turn h v from (message.Grow k z until u) x len =
     let c = chain h v s1 (catching h from k s1) (tell h k z until u (without from h.ports)) (catch_still h v from k s1)
     (tell_still h v k z until u (without from h.ports)) in
     of_still h v (message.Grow k z until u) x (clp_after h from (message.Grow k z until u) x) (c.0, c.1, c.2)
+
+-- where a record comes the way is here
+pub move_here : (h : Hub) (v from : ℕ) (z : Stamp) (r : Parts) (x : ClpState)
+    → way_of v (clp_after h from (message.Move v z r) x).clp ≡ way.Here
+move_here h v from z r x =
+    ap (λ t. get_or t.ways v way.Here) (joins_still h v v x.queries (installed h from v (settled r) x)).0
+    ∙ past x.routing.ways v
+  where
+    past : (ws : List Way) (n : ℕ) → get_or (set ws n way.Here) n way.Here ≡ way.Here
+    past [] n = refl
+    past (w ∷ ws) zero = refl
+    past (w ∷ ws) (suc n) = past ws n

@@ -1,5 +1,5 @@
 -- No read and no write of a variable is ever sent back, where at most one message moves each variable.
-use Rattle.std.specs.Prelude.{ℕ, ◌==◌, ◌<◌, ◌≤◌, ◌≡◌, ◌⊎◌, Bool, true, false, List, get_or, length}
+use Rattle.std.specs.Prelude.{ℕ, ◌==◌, ◌<◌, ◌≤◌, ◌≡◌, ◌⊎◌, Bool, true, false, List, get_or, length, Some}
 use Rattle.pm_base.specs.declared.rows.Parts.{Parts}
 use Rattle.pm_base.specs.declared.stamp.Stamp.{Stamp}
 use Rattle.pm_base.specs.declared.value.Query.TheVariants as query
@@ -10,10 +10,12 @@ use Rattle.pm_queries.specs.declared.registered.Registered.{Registered}
 use Rattle.pm_queries.specs.declared.registered.Sent.{Sent}
 use Rattle.pm_routes.specs.declared.way.Way.TheVariants as way
 use Rattle.pm_clp.specs.Clps.{ClpSends, ClpState, Hub, clp_after, way_of}
+use Rattle.pm_sim.specs.Reached.{Reached}
 use Rattle.pm_sim.specs.Routings.{mail_to}
 use Rattle.pm_sim.specs.Sims.{In, one_if, tally}
-use Rattle.pm_sim.specs.Worlds.{Mail, World, clps_of, mail, no_clp}
+use Rattle.pm_sim.specs.Worlds.{Mail, Process, Taken, World, arrives, clps_of, mail, no_clp, take_from}
 use Rattle.pm_sim.specs.Worlds.Process.{AtClp}
+use Rattle.pm_cost.specs.Falls.{Onwards}
 
 -- the message is a read or a write of the variable on its way
 abbrev pub goes : ℕ → Message → Bool
@@ -67,3 +69,17 @@ pub record Straight (p : Plan) (w : World) : Type 0 where
       → way_of v (get_or w.clps c no_clp) ≡ way.Port d → way_of v (get_or w.clps d no_clp) ≡ way.Port c
       → (z : Stamp) × (q : Parts) × (In (mail_to (AtClp d) (AtClp c) (message.Move v z q)) (mail w.links)
       ⊎ In (mail_to (AtClp c) (AtClp d) (message.Move v z q)) (mail w.links))
+
+-- the message isn't sent back: its variable's way at the receiver doesn't lead to where it came from
+abbrev pub IsOnward : World → ℕ → Process → Message → Type 0
+IsOnward w c from m = Onwards from m (get_or w.clps c no_clp)
+
+-- in such a world a delivery at a communication process sends nothing back, and leaves such a world
+pub record StaysStraight (p : Plan) (w : World) (c : ℕ) (from : Process) (t : Taken) : Type 0 where
+  pub onward : IsOnward w c from t.message
+  pub next : Straight p (arrives p w (AtClp c) from t.message t.links)
+
+-- so it is in each world that a legal run reaches
+abbrev pub DeliveriesStayStraight : Plan → ℕ → World → Type 0
+DeliveriesStayStraight p n w = Reached p n w → Straight p w → (c : ℕ) (from : Process) (t : Taken)
+    → take_from (AtClp c) from w.links ≡ Some t → StaysStraight p w c from t

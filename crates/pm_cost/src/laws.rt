@@ -13,7 +13,7 @@ ghost use Rattle.pm_cost.specs.Costs.{AsksNoMore};
 ghost use Rattle.pm_cost.specs.Falls.{DeliveriesCost};
 ghost use Rattle.pm_cost.specs.Spending.{QueryCosts};
 ghost use Rattle.pm_clp.specs.Clps.{Hub};
-ghost use Rattle.pm_cost.specs.Straight.{DeliveriesTurn};
+ghost use Rattle.pm_cost.specs.Straight.{DeliveriesStayStraight, DeliveriesTurn};
 ghost use Rattle.pm_cost.specs.Weights.{GrowCosts, HitsCost, TellingCosts, UnreadAreFew};
 
 /// In each world that a legal run reaches, deliveries alone take at most two Asks and Finishes of a range query for each
@@ -61,4 +61,10 @@ pub fn a_step_asks_no_more()
 /// Move of it, lets no more messages touch the variable than before, and sends on only along the variable's way.
 pub fn ways_turn_with_messages()
     ensures turn { (h : Hub) → DeliveriesTurn h }
+{}
+
+/// Where of each variable at most one message on its way touches it, and two ways face each other only with a Move between
+/// them, a delivery at a communication process sends no read and no write back, and this stays so.
+pub fn nothing_is_sent_back()
+    ensures straight { (p : Plan) (n : ℕ) (w : World) → IsValid p → DeliveriesStayStraight p n w }
 {}
