@@ -9,3 +9,5 @@ pub mod Standing
 pub mod Credits
 pub mod Turning
 pub mod Straightness
+pub mod Starts
+pub mod Acting

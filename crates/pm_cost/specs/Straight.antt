@@ -1,6 +1,7 @@
 -- No read and no write of a variable is ever sent back, where at most one message moves each variable.
 use Rattle.std.specs.Prelude.{ℕ, ◌==◌, ◌<◌, ◌≤◌, ◌≡◌, ◌⊎◌, Bool, true, false, List, get_or, length, Some}
 use Rattle.pm_base.specs.declared.rows.Parts.{Parts}
+use Rattle.pm_base.specs.declared.stamp.Line.{Line}
 use Rattle.pm_base.specs.declared.stamp.Stamp.{Stamp}
 use Rattle.pm_base.specs.declared.value.Query.TheVariants as query
 use Rattle.pm_message.specs.declared.Message.{Message}
@@ -13,8 +14,8 @@ use Rattle.pm_clp.specs.Clps.{ClpSends, ClpState, Hub, clp_after, way_of}
 use Rattle.pm_sim.specs.Reached.{Reached}
 use Rattle.pm_sim.specs.Routings.{mail_to}
 use Rattle.pm_sim.specs.Sims.{In, one_if, tally}
-use Rattle.pm_sim.specs.Worlds.{Mail, Process, Taken, World, arrives, clps_of, mail, no_clp, take_from}
-use Rattle.pm_sim.specs.Worlds.Process.{AtClp}
+use Rattle.pm_sim.specs.Worlds.{Mail, Process, Taken, World, arrives, clps_of, commit, first_world, mail, no_clp, take_from}
+use Rattle.pm_sim.specs.Worlds.Process.{AtAgent, AtClp}
 use Rattle.pm_cost.specs.Falls.{Onwards}
 
 -- the message is a read or a write of the variable on its way
@@ -83,3 +84,18 @@ pub record StaysStraight (p : Plan) (w : World) (c : ℕ) (from : Process) (t : 
 abbrev pub DeliveriesStayStraight : Plan → ℕ → World → Type 0
 DeliveriesStayStraight p n w = Reached p n w → Straight p w → (c : ℕ) (from : Process) (t : Taken)
     → take_from (AtClp c) from w.links ≡ Some t → StaysStraight p w c from t
+
+-- the first world is so, and a Commit leaves it so
+pub record StraightStarts (p : Plan) : Type 0 where
+  pub first : Straight p (first_world p)
+  pub committed : (w : World) (l : Line) → Straight p w → Straight p (commit w l)
+
+-- nothing is on its way to a communication process
+abbrev pub Shut : World → Type 0
+Shut w = (x : Mail) → In x (mail w.links) → (c : ℕ) → x.to ≡ AtClp c → ⊥
+
+-- in a world that a legal run reaches, an agent that acts where nothing is on its way to a communication process leaves
+-- such a world
+abbrev pub AgentsStayStraight : Plan → ℕ → World → Type 0
+AgentsStayStraight p n w = Reached p n w → Straight p w → Shut w → (a : ℕ) (from : Process) (t : Taken)
+    → take_from (AtAgent a) from w.links ≡ Some t → Straight p (arrives p w (AtAgent a) from t.message t.links)

@@ -13,7 +13,7 @@ ghost use Rattle.pm_cost.specs.Costs.{AsksNoMore};
 ghost use Rattle.pm_cost.specs.Falls.{DeliveriesCost};
 ghost use Rattle.pm_cost.specs.Spending.{QueryCosts};
 ghost use Rattle.pm_clp.specs.Clps.{Hub};
-ghost use Rattle.pm_cost.specs.Straight.{DeliveriesStayStraight, DeliveriesTurn};
+ghost use Rattle.pm_cost.specs.Straight.{AgentsStayStraight, DeliveriesStayStraight, DeliveriesTurn, StraightStarts};
 ghost use Rattle.pm_cost.specs.Weights.{GrowCosts, HitsCost, TellingCosts, UnreadAreFew};
 
 /// In each world that a legal run reaches, deliveries alone take at most two Asks and Finishes of a range query for each
@@ -67,4 +67,14 @@ pub fn ways_turn_with_messages()
 /// them, a delivery at a communication process sends no read and no write back, and this stays so.
 pub fn nothing_is_sent_back()
     ensures straight { (p : Plan) (n : ℕ) (w : World) → IsValid p → DeliveriesStayStraight p n w }
+{}
+
+/// In the first world nothing would be sent back, and a Commit leaves it so.
+pub fn straight_at_first()
+    ensures starts { (p : Plan) → IsValid p → StraightStarts p }
+{}
+
+/// An agent that acts where nothing is on its way to a communication process leaves a world where nothing is sent back.
+pub fn agents_stay_straight()
+    ensures straight { (p : Plan) (n : ℕ) (w : World) → IsValid p → AgentsStayStraight p n w }
 {}
