@@ -1,6 +1,5 @@
 -- What an agent does where nothing is on its way to a communication process: it leaves the world straight.
-use Rattle.std.proofs.Common.{◌≡◌, ℕ, zero, suc, ◌+◌, ◌<◌, ◌≤◌, inl, inr, ◌==◌, Bool, true, false, cond, nat_le, List, [], ◌∷◌, ◌++◌, get_or, length, map, refl, arith, ap, sym, ◌∙◌, subst, Option, Some, None, slice_index_or, ℤ}
-use Rattle.std.proofs.lemmas.Bool.{cases_Bool}
+use Rattle.std.proofs.Common.{◌≡◌, ℕ, suc, ◌+◌, ◌<◌, ◌≤◌, inl, inr, ◌==◌, Bool, true, false, cond, nat_le, List, [], ◌∷◌, ◌++◌, get_or, length, map, refl, arith, ap, sym, ◌∙◌, subst, Option, Some, None, slice_index_or, ℤ}
 use Rattle.std.proofs.lemmas.Bool.Decides.{nat_tests}
 use Rattle.pm_base.specs.Stamps.{num_eq}
 use Rattle.pm_base.specs.declared.rows.Act.{Act}
@@ -34,7 +33,7 @@ use Rattle.pm_alp.specs.declared.agent.Agent.{Agent}
 use Rattle.pm_alp.specs.declared.agent.Awaited.{Awaited}
 use Rattle.pm_sim.proofs.Going.{tally_append}
 use Rattle.pm_sim.proofs.Letters.{More, OneMore, all_posted, in_map, sent_mail, taken, tally_map}
-use Rattle.pm_sim.proofs.Places.{Sim, clp_at}
+use Rattle.pm_sim.proofs.Places.{Sim}
 use Rattle.pm_sim.proofs.Promised.{plan_fits}
 use Rattle.pm_sim.proofs.Quiets.{tally_none}
 use Rattle.pm_sim.specs.Routings.{FitsAt, ForAgent, mail_to}
@@ -42,7 +41,7 @@ use Rattle.pm_sim.specs.Sims.{In, one_if, tally}
 use Rattle.pm_sim.specs.Worlds.{Mail, Posted, Process, Taken, World, actor_of, addressed, arrives, clps_of, home, mail, post_all, rule_at, take_from}
 use Rattle.pm_sim.specs.Worlds.Process.{AtAgent, AtClp}
 use Rattle.pm_calm.proofs.Rounds.{reached_kept}
-use Rattle.pm_cost.specs.Straight.{AgentsStayStraight, Shut, Straight, goes, touches}
+use Rattle.pm_cost.specs.Straight.{AgentsStayStraight, Shut, Straight, touches}
 
 -- writes of rising variables: at most one touches each
 puts_none : (v a n : ℕ) (s : Stamp) (ws : List Write)
@@ -58,7 +57,8 @@ puts_none v a n s (w ∷ ws) h =
 puts_few : (v a n : ℕ) (s : Stamp) (ws : List Write) → IsRising ws → tally (touches v) (puts_of a s n ws) ≤ 1
 puts_few v a n s [] up = omega arith
 puts_few v a n s (w ∷ ws) up =
-    by (v == w.var) refl (puts_few v a (n + 1) s ws (λ i j d l m. up (suc i) (suc j) d (omega (arith, l)) (omega (arith, m))))
+    by (v == w.var) refl (puts_few v a (n + 1) s ws
+    (λ i j d l m. up (suc i) (suc j) d (omega (arith, l)) (omega (arith, m))))
   where
     by : (b : Bool) → (v == w.var) ≡ b → tally (touches v) (puts_of a s (n + 1) ws) ≤ 1
         → one_if b (tally (touches v) (puts_of a s (n + 1) ws)) ≤ 1
@@ -268,10 +268,14 @@ module _ (p : Plan) (q : State) (w : World) (recs : ℕ → Parts) (sim : Sim p 
   straight_agent = record {
     once = once;
     ways = λ v c d m i g. st.ways v c d m (was (AtClp c) d m i) g;
-    facing = λ v c d lc ld h k. (let f = st.facing v c d lc ld h k in (f.0, f.1, elim f.2 [
-      | inl i ↦ inl (still d (AtClp c) (message.Move v f.0 f.1) i)
-      | inr i ↦ inr (still c (AtClp d) (message.Move v f.0 f.1) i)
-    ]));
+    facing = λ v c d lc ld h k. (let f = st.facing v c d lc ld h k in (
+      f.0,
+      f.1,
+      elim f.2 [
+        | inl i ↦ inl (still d (AtClp c) (message.Move v f.0 f.1) i)
+        | inr i ↦ inr (still c (AtClp d) (message.Move v f.0 f.1) i)
+      ],
+    ));
   }
 
 pub agents_straight : (p : Plan) (n : ℕ) (w : World) → IsValid p → AgentsStayStraight p n w

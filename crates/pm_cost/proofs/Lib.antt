@@ -11,3 +11,4 @@ pub mod Turning
 pub mod Straightness
 pub mod Starts
 pub mod Acting
+pub mod Onward

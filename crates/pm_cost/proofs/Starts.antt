@@ -1,11 +1,9 @@
 -- The first world is straight, and a Commit leaves it so.
-use Rattle.std.proofs.Common.{◌≡◌, ℕ, zero, suc, ◌+◌, ◌<◌, ◌≤◌, inl, inr, ◌==◌, Bool, true, false, cond, List, [], ◌∷◌, get_or, length, map, refl, arith, ap, sym, ◌∙◌, subst}
-use Rattle.std.proofs.lemmas.Bool.{cases_Bool, cases_eq, cases_lt}
+use Rattle.std.proofs.Common.{◌≡◌, ℕ, zero, suc, ◌<◌, inl, inr, ◌==◌, true, false, cond, List, [], ◌∷◌, get_or, length, map, refl, arith, ap, sym, ◌∙◌, subst}
+use Rattle.std.proofs.lemmas.Bool.{cases_eq, cases_lt}
 use Rattle.std.proofs.lemmas.Bool.Decides.{nat_tests}
 use Rattle.std.proofs.lemmas.List.{get_or-map, length-map}
 use Rattle.pm_base.specs.declared.stamp.Line.{Line}
-use Rattle.pm_base.specs.declared.stamp.Num.{Num}
-use Rattle.pm_base.specs.declared.stamp.Stamp.{Stamp}
 use Rattle.pm_message.specs.declared.Message.{Message}
 use Rattle.pm_message.specs.declared.Message.TheVariants as message
 use Rattle.pm_plan.specs.Plans.{IsValid, parents}
@@ -21,7 +19,7 @@ use Rattle.pm_sim.proofs.Promised.{plan_fits}
 use Rattle.pm_sim.proofs.Quiets.{tally_none}
 use Rattle.pm_sim.proofs.Wholes.{first_whole}
 use Rattle.pm_sim.specs.Routings.{mail_to}
-use Rattle.pm_sim.specs.Sims.{In, tally}
+use Rattle.pm_sim.specs.Sims.{In}
 use Rattle.pm_sim.specs.Worlds.{Mail, World, clps_of, commit, first_way, first_world, mail, no_clp}
 use Rattle.pm_sim.specs.Worlds.Process.{AtClp}
 use Rattle.pm_calm.proofs.Commits.{Old, first_old}
@@ -61,9 +59,11 @@ module _ (p : Plan) (fit : PlanFits p) where
   leads c r d e = elim (cases_eq r.at c) [
     | inl f ↦ absurd (let g : (r.at == c) ≡ true = grind (arith, nat_tests, f) in
         here_port d (sym (ap (λ z. cond z way.Here (way.Port (hop (parents p.clps) c r.at))) g) ∙ e))
-    | inr ne ↦ (let g : (r.at == c) ≡ false = grind (arith, nat_tests, ne) in
-        (ne, port_same (hop (parents p.clps) c r.at) d
-        (sym (ap (λ z. cond z way.Here (way.Port (hop (parents p.clps) c r.at))) g) ∙ e)))
+    | inr ne ↦ (let g : (r.at == c) ≡ false = grind (arith, nat_tests, ne) in (
+      ne,
+      port_same (hop (parents p.clps) c r.at) d
+          (sym (ap (λ z. cond z way.Here (way.Port (hop (parents p.clps) c r.at))) g) ∙ e),
+    ))
   ]
 
   first_is : (v c d : ℕ) → c < clps_of p → way_of v (clp_at (first_world p) c) ≡ way.Port d

@@ -1,9 +1,8 @@
 -- A delivery at a communication process sends no read and no write of a variable back.
-use Rattle.std.proofs.Common.{◌≡◌, ℕ, suc, ◌+◌, ◌-◌, ◌<◌, ◌≤◌, ◌⊎◌, inl, inr, Bool, true, false, cond, nat_lt, List, [], ◌∷◌, get_or, length, map, set, refl, arith, ap, sym, ◌∙◌, subst, Some, get_or-set_other, get_or-set_same}
+use Rattle.std.proofs.Common.{◌≡◌, ℕ, suc, ◌-◌, ◌<◌, ◌≤◌, ◌⊎◌, inl, inr, Bool, true, false, cond, nat_lt, List, get_or, map, set, refl, arith, ap, sym, ◌∙◌, subst, Some, get_or-set_other, get_or-set_same}
 use Rattle.std.proofs.lemmas.Bool.{cases_Bool, cases_eq}
 use Rattle.std.proofs.lemmas.Bool.Decides.{nat_tests}
 use Rattle.pm_base.specs.declared.rows.Parts.{Parts}
-use Rattle.pm_base.specs.declared.stamp.Num.{Num}
 use Rattle.pm_base.specs.declared.stamp.Stamp.{Stamp}
 use Rattle.pm_base.specs.declared.value.Query.TheVariants as query
 use Rattle.pm_message.specs.declared.Message.{Message}
@@ -11,9 +10,8 @@ use Rattle.pm_message.specs.declared.Message.TheVariants as message
 use Rattle.pm_model.specs.declared.State.{State}
 use Rattle.pm_plan.specs.Plans.{IsValid}
 use Rattle.pm_plan.specs.declared.plan.Plan.{Plan}
-use Rattle.pm_queries.specs.declared.registered.Sent.{Sent}
 use Rattle.pm_routes.specs.declared.way.Way.TheVariants as way
-use Rattle.pm_clp.specs.Clps.{ClpSends, ClpState, clp_after, way_of}
+use Rattle.pm_clp.specs.Clps.{ClpSends, clp_after, way_of}
 use Rattle.pm_sim.proofs.Letters.{More, OneMore, all_posted, in_map, map_in, sent_mail, taken, tally_map}
 use Rattle.pm_sim.proofs.Places.{Sim, clp_at, process_clp}
 use Rattle.pm_sim.proofs.Promised.{plan_fits}
@@ -25,7 +23,7 @@ use Rattle.pm_sim.specs.Worlds.{Mail, Posted, Process, Taken, World, arrives, cl
 use Rattle.pm_sim.specs.Worlds.Process.{AtAgent, AtClp}
 use Rattle.pm_calm.proofs.Rounds.{reached_kept}
 use Rattle.pm_cost.specs.Falls.{Onwards}
-use Rattle.pm_cost.specs.Straight.{DeliveriesStayStraight, StaysStraight, Straight, TurnsWay, goes, touched, touches}
+use Rattle.pm_cost.specs.Straight.{DeliveriesStayStraight, Straight, TurnsWay, goes, touches}
 use Rattle.pm_cost.proofs.Turning.{all_turn, goes_touches, move_here}
 
 -- a number whose process is a communication process is that one's
@@ -126,12 +124,16 @@ module _ (p : Plan) (q : State) (w : World) (recs : ℕ → Parts) (sim : Sim p 
     | inr ne ↦ inl (sym (way_same v x ne) ∙ h)
     | inl f ↦ elim ((turn v).turns y (sym (way_at v x f) ∙ h)) [
       | inl o ↦ inl (ap (λ z. way_of v (clp_at w z)) f ∙ o)
-      | inr o ↦ inr (o.0, o.1, subst (λ z. In (mail_to z (AtClp x) (message.Move v o.0 o.1))
-          (mail (post_all (AtClp c) sends t.links))) (process_clp p y ly)
-          (subst (λ z. In (mail_to (process p y) (AtClp z) (message.Move v o.0 o.1))
-          (mail (post_all (AtClp c) sends t.links))) (sym f)
-          (more.into _ (inl (map_in (λ (k : Posted). mail_to k.to (AtClp c) k.message) sends _
-          (map_in (posted p) r.sent _ o.2))))))
+      | inr o ↦ inr (
+        o.0,
+        o.1,
+        subst (λ z. In (mail_to z (AtClp x) (message.Move v o.0 o.1))
+            (mail (post_all (AtClp c) sends t.links))) (process_clp p y ly)
+            (subst (λ z. In (mail_to (process p y) (AtClp z) (message.Move v o.0 o.1))
+            (mail (post_all (AtClp c) sends t.links))) (sym f)
+            (more.into _ (inl (map_in (λ (k : Posted). mail_to k.to (AtClp c) k.message) sends _
+            (map_in (posted p) r.sent _ o.2))))),
+      )
     ]
   ]
 
@@ -170,10 +172,14 @@ module _ (p : Plan) (q : State) (w : World) (recs : ℕ → Parts) (sim : Sim p 
     | inr o ↦ (o.0, o.1, inl o.2)
     | inl ox ↦ elim (led v y x lx hy) [
       | inr o ↦ (o.0, o.1, inr o.2)
-      | inl oy ↦ (let f = st.facing v x y lx ly ox oy in (f.0, f.1, elim f.2 [
+      | inl oy ↦ (let f = st.facing v x y lx ly ox oy in (
+        f.0,
+        f.1,
+        elim f.2 [
           | inl i ↦ inl (moved v x y y x f.0 f.1 (inr refl) hx hy i)
           | inr i ↦ inr (moved v x y x y f.0 f.1 (inl refl) hx hy i)
-        ]))
+        ],
+      ))
     ]
   ]
 

@@ -1,6 +1,6 @@
 -- What a delivery at a communication process does to the way of a variable.
-use Rattle.std.proofs.Common.{◌≡◌, ℕ, zero, suc, ◌+◌, ◌<◌, ◌≤◌, ◌⊎◌, inl, inr, ◌==◌, Bool, true, false, cond, not, List, [], ◌∷◌, ◌++◌, map, filter, length, get_or, set, refl, arith, ap, sym, ◌∙◌, subst, Option, Some, None, get_or-set_other, get_or-set_same, length-set}
-use Rattle.std.proofs.lemmas.Bool.{cases_eq, cases_lt, cond_both}
+use Rattle.std.proofs.Common.{◌≡◌, ℕ, zero, suc, ◌⊎◌, inl, inr, ◌==◌, Bool, true, false, List, [], ◌∷◌, ◌++◌, map, filter, length, get_or, set, refl, arith, ap, sym, ◌∙◌, subst, Option, Some, None, get_or-set_other, get_or-set_same, length-set}
+use Rattle.std.proofs.lemmas.Bool.{cases_eq, cond_both}
 use Rattle.std.proofs.lemmas.Bool.Decides.{nat_tests}
 use Rattle.pm_base.specs.Layouts.{class_row}
 use Rattle.pm_base.specs.Stamps.{num_eq}
@@ -32,7 +32,7 @@ use Rattle.pm_sim.proofs.Going.{tally_append}
 use Rattle.pm_sim.proofs.Lists.{in_cases}
 use Rattle.pm_sim.proofs.Places.{in_range}
 use Rattle.pm_sim.proofs.Quiets.{tally_in}
-use Rattle.pm_sim.specs.Sims.{In, one_if, tally}
+use Rattle.pm_sim.specs.Sims.{In, one_if}
 use Rattle.pm_cost.specs.Straight.{DeliveriesTurn, TurnsWay, goes, touched, touches}
 
 -- what goes on touches the variable
@@ -60,7 +60,7 @@ module _ (h : Hub) (v : ℕ) where
   chain x r f a e = (let o = e r.clp in (
     o.0 ∙ a.0,
     tally_append (λ (y : Sent). touches v y.message) r.sent (f r.clp).sent
-    ∙ (let b = a.1 in let d = o.1 in omega (arith, b, d)),
+        ∙ (let b = a.1 in let d = o.1 in omega (arith, b, d)),
     o.2 ∙ a.2,
   ))
 
@@ -251,9 +251,16 @@ module _ (h : Hub) (v : ℕ) where
             same = λ n. absurd (let b : (v == u) ≡ true = grind (arith, nat_tests, f) in
                 let k : touches v m ≡ true = tm ∙ b in cc);
             sent = λ s i g. absurd (no_goes s i g);
-            turns = λ d k. inr (floor_of x.line, r, inl (let w : way.Port d ≡ way.Port from = sym k ∙ now f in
-                let q : d ≡ from = port_same d from w in λ i. record { to = q i; message = message.Move (f i)
-                (floor_of x.line) r }));
+            turns = λ d k. inr (
+              floor_of x.line,
+              r,
+              inl (let w : way.Port d ≡ way.Port from = sym k ∙ now f in
+                  let q : d ≡ from = port_same d from w in λ i. record {
+                    to = q i;
+                    message = message.Move (f i)
+                        (floor_of x.line) r;
+                  }),
+            );
           }
             where
               port_same : (a b : ℕ) → way.Port a ≡ way.Port b → a ≡ b

@@ -1,4 +1,5 @@
--- What the lowest run may cost, in deliveries: a sum over the entries of the sequential run.
+-- A sum over the entries of the sequential run, to hold the deliveries of the lowest run against. That the lowest run
+-- keeps to it isn't proved here.
 use Rattle.std.specs.Prelude.{ℕ, suc, ◌+◌, ◌*◌, ◌≤◌, List, [], ◌∷◌, length, ℤ}
 use Rattle.pm_base.specs.declared.program.Sense.{Sense}
 use Rattle.pm_base.specs.declared.program.Sense.TheVariants.{Read, Scan}
@@ -34,8 +35,8 @@ abbrev pub scans_of : List SenseRow → ℕ
 scans_of [] = 0
 scans_of (x ∷ xs) = one_scan x.sense (scans_of xs)
 
--- what a step of so many single reads, range queries and writes may cost: its Wake, and for n communication processes
--- and v variables 2n + 2 for each single read and each write, and (v + 2)(n + 1) for each range query
+-- the share of a step of so many single reads, range queries and writes: one for its Wake, and for n communication
+-- processes and v variables 2n + 2 for each single read and each write, and (v + 2)(n + 1) for each range query
 abbrev pub step_cost : ℕ → ℕ → ℕ → ℕ → ℕ → ℕ
 step_cost n v reads scans writes =
     1 + (reads * (2 * n + 2) + (scans * ((v + 2) * (n + 1)) + writes * (2 * n + 2)))
@@ -44,17 +45,17 @@ step_cost n v reads scans writes =
 abbrev pub senses_at : Plan → ℕ → List SenseRow
 senses_at p a = (agent_at p a).program.senses
 
--- what an entry may cost: it has as many single reads and range queries as its agent's program
+-- the share of an entry: it has as many single reads and range queries as its agent's program
 abbrev pub cost_of : Plan → Entry → ℕ
 cost_of p e = step_cost (clps_of p) (vars_of p)
     (reads_of (senses_at p e.stamp.agent)) (scans_of (senses_at p e.stamp.agent)) (length e.writes)
 
--- what these entries may cost together
+-- the shares of these entries together
 abbrev pub cost_sum : Plan → List Entry → ℕ
 cost_sum p [] = 0
 cost_sum p (e ∷ es) = cost_of p e + cost_sum p es
 
--- what the whole run of a plan may cost
+-- the shares of all entries of a plan's sequential run
 abbrev pub bound_of : Plan → ℕ
 bound_of p = cost_sum p (sequential_run p)
 

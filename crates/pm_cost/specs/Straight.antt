@@ -2,20 +2,22 @@
 use Rattle.std.specs.Prelude.{ℕ, ◌==◌, ◌<◌, ◌≤◌, ◌≡◌, ◌⊎◌, Bool, true, false, List, get_or, length, Some}
 use Rattle.pm_base.specs.declared.rows.Parts.{Parts}
 use Rattle.pm_base.specs.declared.stamp.Line.{Line}
+use Rattle.pm_base.specs.declared.stamp.Line.TheVariants as line
 use Rattle.pm_base.specs.declared.stamp.Stamp.{Stamp}
 use Rattle.pm_base.specs.declared.value.Query.TheVariants as query
 use Rattle.pm_message.specs.declared.Message.{Message}
 use Rattle.pm_message.specs.declared.Message.TheVariants as message
 use Rattle.pm_plan.specs.declared.plan.Plan.{Plan}
-use Rattle.pm_queries.specs.declared.registered.Registered.{Registered}
 use Rattle.pm_queries.specs.declared.registered.Sent.{Sent}
 use Rattle.pm_routes.specs.declared.way.Way.TheVariants as way
 use Rattle.pm_clp.specs.Clps.{ClpSends, ClpState, Hub, clp_after, way_of}
 use Rattle.pm_sim.specs.Reached.{Reached}
 use Rattle.pm_sim.specs.Routings.{mail_to}
 use Rattle.pm_sim.specs.Sims.{In, one_if, tally}
-use Rattle.pm_sim.specs.Worlds.{Mail, Process, Taken, World, arrives, clps_of, commit, first_world, mail, no_clp, take_from}
+use Rattle.pm_sim.specs.Worlds.{Mail, Process, Taken, World, arrives, clps_of, commit, deliver, first_world, least_line, mail, no_clp, take_from}
 use Rattle.pm_sim.specs.Worlds.Process.{AtAgent, AtClp}
+use Rattle.pm_calm.specs.Lowest.{least_mail}
+use Rattle.pm_calm.specs.Phases.{Calm, OrderIn, Over, Phase}
 use Rattle.pm_cost.specs.Falls.{Onwards}
 
 -- the message is a read or a write of the variable on its way
@@ -99,3 +101,10 @@ Shut w = (x : Mail) → In x (mail w.links) → (c : ℕ) → x.to ≡ AtClp c �
 abbrev pub AgentsStayStraight : Plan → ℕ → World → Type 0
 AgentsStayStraight p n w = Reached p n w → Straight p w → Shut w → (a : ℕ) (from : Process) (t : Taken)
     → take_from (AtAgent a) from w.links ≡ Some t → Straight p (arrives p w (AtAgent a) from t.message t.links)
+
+-- one delivery of the lowest run in a calm world at moment s, behind its Commit: the message that is taken leaves such a
+-- world
+abbrev pub LowestStaysStraight : Plan → ℕ → World → Type 0
+LowestStaysStraight p n w = Reached p n w → Straight p w → (s : Stamp) (os : List Over) (ph : Phase)
+    → Calm p w s os ph → OrderIn ph p w → least_line w ≡ line.At s → (x : Mail) → least_mail p w ≡ Some x
+    → Straight p (deliver p w x.to x.from)

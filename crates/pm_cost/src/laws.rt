@@ -13,7 +13,7 @@ ghost use Rattle.pm_cost.specs.Costs.{AsksNoMore};
 ghost use Rattle.pm_cost.specs.Falls.{DeliveriesCost};
 ghost use Rattle.pm_cost.specs.Spending.{QueryCosts};
 ghost use Rattle.pm_clp.specs.Clps.{Hub};
-ghost use Rattle.pm_cost.specs.Straight.{AgentsStayStraight, DeliveriesStayStraight, DeliveriesTurn, StraightStarts};
+ghost use Rattle.pm_cost.specs.Straight.{AgentsStayStraight, DeliveriesStayStraight, DeliveriesTurn, LowestStaysStraight, StraightStarts};
 ghost use Rattle.pm_cost.specs.Weights.{GrowCosts, HitsCost, TellingCosts, UnreadAreFew};
 
 /// In each world that a legal run reaches, deliveries alone take at most two Asks and Finishes of a range query for each
@@ -77,4 +77,10 @@ pub fn straight_at_first()
 /// An agent that acts where nothing is on its way to a communication process leaves a world where nothing is sent back.
 pub fn agents_stay_straight()
     ensures straight { (p : Plan) (n : ℕ) (w : World) → IsValid p → AgentsStayStraight p n w }
+{}
+
+/// A delivery of the lowest run, in a calm world behind a Commit at its least line, leaves a world where nothing is sent
+/// back.
+pub fn the_lowest_run_stays_straight()
+    ensures straight { (p : Plan) (n : ℕ) (w : World) → IsValid p → LowestStaysStraight p n w }
 {}
