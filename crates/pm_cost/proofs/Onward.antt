@@ -1,14 +1,10 @@
 -- The lowest run sends nothing back, one delivery after another.
-use Rattle.std.proofs.Common.{◌≡◌, ℕ, refl, sym, subst, Some, Option, List}
-use Rattle.pm_base.specs.declared.stamp.Line.TheVariants as line
-use Rattle.pm_base.specs.declared.stamp.Stamp.{Stamp}
+use Rattle.std.proofs.Common.{◌≡◌, ℕ, refl, sym, subst, Some, Option}
 use Rattle.pm_plan.specs.Plans.{IsValid}
 use Rattle.pm_plan.specs.declared.plan.Plan.{Plan}
 use Rattle.pm_sim.proofs.Promised.{plan_fits}
-use Rattle.pm_sim.specs.Worlds.{Mail, Process, Taken, World, arrives, deliver, delivered, least_line, take_from}
+use Rattle.pm_sim.specs.Worlds.{Process, Taken, World, arrives, delivered, take_from}
 use Rattle.pm_sim.specs.Worlds.Process.{AtAgent, AtClp}
-use Rattle.pm_calm.specs.Lowest.{least_mail}
-use Rattle.pm_calm.specs.Phases.{Calm, OrderIn, Over, Phase}
 use Rattle.pm_calm.proofs.Firsts.{taken_head}
 use Rattle.pm_calm.proofs.Orders.{IsLowest, heads, some_lowest}
 use Rattle.pm_calm.proofs.Rounds.{Kept, reached_kept}
