@@ -102,8 +102,7 @@ abbrev pub AgentsStayStraight : Plan → ℕ → World → Type 0
 AgentsStayStraight p n w = Reached p n w → Straight p w → Shut w → (a : ℕ) (from : Process) (t : Taken)
     → take_from (AtAgent a) from w.links ≡ Some t → Straight p (arrives p w (AtAgent a) from t.message t.links)
 
--- one delivery of the lowest run in a calm world at moment s, behind its Commit: the message that is taken leaves such a
--- world
+-- one delivery of the lowest run in a calm world at moment s, behind its Commit: what is taken leaves such a world
 abbrev pub LowestStaysStraight : Plan → ℕ → World → Type 0
 LowestStaysStraight p n w = Reached p n w → Straight p w → (s : Stamp) (os : List Over) (ph : Phase)
     → Calm p w s os ph → OrderIn ph p w → least_line w ≡ line.At s → (x : Mail) → least_mail p w ≡ Some x

@@ -13,13 +13,15 @@ ghost use Rattle.pm_cost.specs.Costs.{AsksNoMore};
 ghost use Rattle.pm_cost.specs.Falls.{DeliveriesCost};
 ghost use Rattle.pm_cost.specs.Spending.{QueryCosts};
 ghost use Rattle.pm_clp.specs.Clps.{Hub};
-ghost use Rattle.pm_cost.specs.Straight.{AgentsStayStraight, DeliveriesStayStraight, DeliveriesTurn, LowestStaysStraight, StraightStarts};
+ghost use Rattle.pm_cost.specs.Straight.{AgentsStayStraight, DeliveriesStayStraight, DeliveriesTurn};
+ghost use Rattle.pm_cost.specs.Straight.{LowestStaysStraight, StraightStarts};
 ghost use Rattle.pm_cost.specs.Weights.{GrowCosts, HitsCost, TellingCosts, UnreadAreFew};
 
-/// In each world that a legal run reaches, deliveries alone take at most two Asks and Finishes of a range query for each
-/// communication process, and the Finishes that are on their way.
+/// In each world that a legal run reaches, deliveries alone take at most two Asks and Finishes of a range query for
+/// each communication process, and the Finishes that are on their way.
 pub fn a_range_query_costs()
-    ensures costs { (p : Plan) (n : ℕ) (w : World) (m : Num) (es : Seq Event) → IsValid p → QueryCosts p n w m es }
+    ensures costs { (p : Plan) (n : ℕ) (w : World) (m : Num) (es : Seq Event) → IsValid p →
+        QueryCosts p n w m es }
 {}
 
 /// What is told of a variable whose writes are all of one moment, and all that comes of it, is fewer deliveries than
@@ -39,15 +41,15 @@ pub fn hits_cost()
     ensures hits { (p : Plan) → IsValid p → HitsCost p }
 {}
 
-/// A delivery at a communication process of the lowest run costs one: what the process and all that it sends may still
-/// cost is at least one less than what the message and the process could cost before. A read or a write of a variable
-/// must not go back to where it came from.
+/// A delivery at a communication process of the lowest run costs one: what the process and all that it sends may
+/// still cost is at least one less than what the message and the process could cost before. A read or a write of a
+/// variable must not go back to where it came from.
 pub fn a_delivery_costs_one()
     ensures falls { (p : Plan) → IsValid p → DeliveriesCost p }
 {}
 
-/// In each world that a legal run reaches, the records at all communication processes that don't have a read are no more
-/// than there are variables.
+/// In each world that a legal run reaches, the records at all communication processes that don't have a read are no
+/// more than there are variables.
 pub fn unread_records_are_few()
     ensures few { (p : Plan) (n : ℕ) (w : World) (m : Num) → IsValid p → UnreadAreFew p n w m }
 {}
@@ -63,8 +65,8 @@ pub fn ways_turn_with_messages()
     ensures turn { (h : Hub) → DeliveriesTurn h }
 {}
 
-/// Where of each variable at most one message on its way touches it, and two ways face each other only with a Move between
-/// them, a delivery at a communication process sends no read and no write back, and this stays so.
+/// Where of each variable at most one message on its way touches it, and two ways face each other only with a Move
+/// between them, a delivery at a communication process sends no read and no write back, and this stays so.
 pub fn nothing_is_sent_back()
     ensures straight { (p : Plan) (n : ℕ) (w : World) → IsValid p → DeliveriesStayStraight p n w }
 {}
@@ -74,13 +76,14 @@ pub fn straight_at_first()
     ensures starts { (p : Plan) → IsValid p → StraightStarts p }
 {}
 
-/// An agent that acts where nothing is on its way to a communication process leaves a world where nothing is sent back.
+/// An agent that acts where nothing is on its way to a communication process leaves a world where nothing is sent
+/// back.
 pub fn agents_stay_straight()
     ensures straight { (p : Plan) (n : ℕ) (w : World) → IsValid p → AgentsStayStraight p n w }
 {}
 
-/// A delivery of the lowest run, in a calm world behind a Commit at its least line, leaves a world where nothing is sent
-/// back.
+/// A delivery of the lowest run, in a calm world behind a Commit at its least line, leaves a world where nothing is
+/// sent back.
 pub fn the_lowest_run_stays_straight()
     ensures straight { (p : Plan) (n : ℕ) (w : World) → IsValid p → LowestStaysStraight p n w }
 {}
