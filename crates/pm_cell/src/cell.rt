@@ -32,7 +32,7 @@ pub struct Cell<'a> {
     // Whether memory was wanting in a turn: then every later turn answers `Memory`.
     pub(crate) spoilt: bool,
     pub(crate) window: Option<Line>,
-    // How many messages that withdraw a write it heard since that number was taken: for the pace of a run, not seen.
+    // How many messages that withdraw a write it heard: for the pace of a run, not seen.
     pub(crate) withdrawn: u64,
 }
 
@@ -115,17 +115,10 @@ impl<'a> Cell<'a> {
         self.story.copy(alloc)
     }
 
-    /// How many messages that withdraw a write it heard since this number was last taken by `take_withdrawn`, which tells
-    /// how much of what agents did ahead was taken back. No clause speaks of it. It takes no memory.
+    /// How many messages that withdraw a write it heard so far, at most `u64::MAX`: it tells how much of what agents did
+    /// ahead was taken back. No clause speaks of it. It takes no memory.
     pub fn withdrawn(&self) -> u64 {
         self.withdrawn
-    }
-
-    /// The same number, which is counted from 0 again: nothing that contracts see of the cell changes. It takes no memory.
-    pub fn take_withdrawn(&mut self) -> u64
-        ensures { self.new ≡ self.old }
-    {
-        replace(&mut self.withdrawn, 0)
     }
 
     /// The least moment that waits at its ends, or the end where nothing does. It takes no memory.

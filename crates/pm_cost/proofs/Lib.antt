@@ -1,0 +1,14 @@
+pub mod Worked
+pub mod QueryCosts
+pub mod QueryRuns
+pub mod TreeSides
+pub mod GrowCosts
+pub mod Hits
+pub mod Falling
+pub mod Standing
+pub mod Credits
+pub mod Turning
+pub mod Straightness
+pub mod Starts
+pub mod Acting
+pub mod Onward
