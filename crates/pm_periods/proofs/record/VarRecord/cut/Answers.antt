@@ -149,7 +149,8 @@ invariant_of-self-2 c =
     ∙ (sym c.knows.ensures ∙ c.if-knows.false) in
     let ok = c.in_ok-gives.ensures.ok in
     let whole =
-    end_whole i.var hs ws c.self.invariant.sound row new ok.0 ok.1 c.end_known.new.periods.items c.in_ok-gives.gives.items ok.2 c.end_known.new.withdrawals.items ok.3 in
+    end_whole i.var hs ws c.self.invariant.sound row new ok.0 ok.1 c.end_known.new.periods.items
+    c.in_ok-gives.gives.items ok.2 c.end_known.new.withdrawals.items ok.3 in
     record {
       settled = subst IsSettled (sym whole.0) (after_cut-settled row (parts_by hs ws) c.self.invariant.settled);
       sound = whole.2;
@@ -170,7 +171,8 @@ returns-clause-ok c =
     ∙ (sym c.knows.ensures ∙ c.if-knows.false) in
     let ok = c.in_ok-gives.ensures.ok in
     let whole =
-    end_whole i.var hs ws c.self.invariant.sound row new ok.0 ok.1 c.end_known.new.periods.items c.in_ok-gives.gives.items ok.2 c.end_known.new.withdrawals.items ok.3 in
+    end_whole i.var hs ws c.self.invariant.sound row new ok.0 ok.1 c.end_known.new.periods.items
+    c.in_ok-gives.gives.items ok.2 c.end_known.new.withdrawals.items ok.3 in
     ap (λ z. record { var = i.var; parts = z }) whole.0
     ∙ ap (λ (z : Record). with_parts z (after_cut row z.parts)) c.self.view_is
 
@@ -184,5 +186,6 @@ returns-clause-gives c =
     ∙ (sym c.knows.ensures ∙ c.if-knows.false) in
     let ok = c.in_ok-gives.ensures.ok in
     let whole =
-    end_whole i.var hs ws c.self.invariant.sound row new ok.0 ok.1 c.end_known.new.periods.items c.in_ok-gives.gives.items ok.2 c.end_known.new.withdrawals.items ok.3 in
+    end_whole i.var hs ws c.self.invariant.sound row new ok.0 ok.1 c.end_known.new.periods.items
+    c.in_ok-gives.gives.items ok.2 c.end_known.new.withdrawals.items ok.3 in
     c.from_vec.ensures ∙ (whole.1 ∙ ap (λ (z : Record). gives_of_cut z.var row z.parts) c.self.view_is)

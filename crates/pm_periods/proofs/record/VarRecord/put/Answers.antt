@@ -135,7 +135,8 @@ invariant_of-self-2 c =
     let at : c.named_place-named.result ≡ number_place withdrawal_key p.num ws =
     c.named_place-named.ensures ∙ ap (number_place withdrawal_key p.num) c.as_slice.ensures.value in
     let past : length ws ≤ number_place withdrawal_key p.num ws =
-    omega (arith, c.if-named-len.false, c.len.ensures, c.as_slice.ensures.len, ap length c.as_slice.ensures.value, at) in
+    omega (arith, c.if-named-len.false, c.len.ensures, c.as_slice.ensures.len, ap length c.as_slice.ensures.value, at)
+    in
     let whole = begin_whole i.var hs ws c.self.invariant.sound p (told ∙ c.if-knows.false)
     (cut_unknown p.num ws past) c.begin_known.new.periods.items c.in_ok-gives.gives.items c.in_ok-gives.ensures.ok in
     let new = has_num-sorted put_key put_key p.num (puts_of hs ++ withdrawn_of ws) ∙ (told ∙ c.if-knows.false) in
@@ -160,7 +161,8 @@ returns-clause-ok c =
     let at : c.named_place-named.result ≡ number_place withdrawal_key p.num ws =
     c.named_place-named.ensures ∙ ap (number_place withdrawal_key p.num) c.as_slice.ensures.value in
     let past : length ws ≤ number_place withdrawal_key p.num ws =
-    omega (arith, c.if-named-len.false, c.len.ensures, c.as_slice.ensures.len, ap length c.as_slice.ensures.value, at) in
+    omega (arith, c.if-named-len.false, c.len.ensures, c.as_slice.ensures.len, ap length c.as_slice.ensures.value, at)
+    in
     let whole = begin_whole i.var hs ws c.self.invariant.sound p (told ∙ c.if-knows.false)
     (cut_unknown p.num ws past) c.begin_known.new.periods.items c.in_ok-gives.gives.items c.in_ok-gives.ensures.ok in
     ap (λ z. record { var = i.var; parts = z }) whole.0
@@ -177,7 +179,8 @@ returns-clause-gives c =
     let at : c.named_place-named.result ≡ number_place withdrawal_key p.num ws =
     c.named_place-named.ensures ∙ ap (number_place withdrawal_key p.num) c.as_slice.ensures.value in
     let past : length ws ≤ number_place withdrawal_key p.num ws =
-    omega (arith, c.if-named-len.false, c.len.ensures, c.as_slice.ensures.len, ap length c.as_slice.ensures.value, at) in
+    omega (arith, c.if-named-len.false, c.len.ensures, c.as_slice.ensures.len, ap length c.as_slice.ensures.value, at)
+    in
     let whole = begin_whole i.var hs ws c.self.invariant.sound p (told ∙ c.if-knows.false)
     (cut_unknown p.num ws past) c.begin_known.new.periods.items c.in_ok-gives.gives.items c.in_ok-gives.ensures.ok in
     c.from_vec.ensures ∙ (whole.1 ∙ ap (λ (z : Record). gives_of_put z.var p z.parts) c.self.view_is)

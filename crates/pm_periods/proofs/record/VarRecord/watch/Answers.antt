@@ -58,10 +58,12 @@ invariant_of-self-2 c =
     subst (λ (z : ReadRow). z.hit ≡ hit_in (record_value (parts_of i) z.stamp) z.window) (sym fresh)
     (fresh_hit (record_value (parts_of i)) c.value_at_line-value.result q value) in
     let whole =
-    entered_whole hs ws c.self.invariant.sound c.refreshed-row.result hit c.add_known.new.periods.items c.in_ok-add_known.ensures.ok in
+    entered_whole hs ws c.self.invariant.sound c.refreshed-row.result hit c.add_known.new.periods.items
+    c.in_ok-add_known.ensures.ok in
     let parts =
     whole.0 ∙ watch_parts i.var
-    (parts_of i) c.self.invariant.settled c.args.num c.args.stamp c.args.window new c.value_at_line-value.result value c.refreshed-row.result fresh (add_row read_key c.refreshed-row.result (reads_of hs)) refl in
+    (parts_of i) c.self.invariant.settled c.args.num c.args.stamp c.args.window new c.value_at_line-value.result value
+    c.refreshed-row.result fresh (add_row read_key c.refreshed-row.result (reads_of hs)) refl in
     record {
       settled = subst IsSettled (sym parts) (after_watch-settled q (parts_of i) c.self.invariant.settled);
       sound = whole.1;
@@ -91,10 +93,12 @@ returns-clause-ok c =
     subst (λ (z : ReadRow). z.hit ≡ hit_in (record_value (parts_of i) z.stamp) z.window) (sym fresh)
     (fresh_hit (record_value (parts_of i)) c.value_at_line-value.result q value) in
     let whole =
-    entered_whole hs ws c.self.invariant.sound c.refreshed-row.result hit c.add_known.new.periods.items c.in_ok-add_known.ensures.ok in
+    entered_whole hs ws c.self.invariant.sound c.refreshed-row.result hit c.add_known.new.periods.items
+    c.in_ok-add_known.ensures.ok in
     let parts =
     whole.0 ∙ watch_parts i.var
-    (parts_of i) c.self.invariant.settled c.args.num c.args.stamp c.args.window new c.value_at_line-value.result value c.refreshed-row.result fresh (add_row read_key c.refreshed-row.result (reads_of hs)) refl in
+    (parts_of i) c.self.invariant.settled c.args.num c.args.stamp c.args.window new c.value_at_line-value.result value
+    c.refreshed-row.result fresh (add_row read_key c.refreshed-row.result (reads_of hs)) refl in
     ap (λ z. record { var = i.var; parts = z }) parts
     ∙ ap (λ (z : Record). with_parts z (after_watch q z.parts)) c.self.view_is
 
@@ -111,5 +115,6 @@ returns-clause-gives c =
     (base_of z)) c.as_slice.ensures.value ∙ sym (sound_sees hs ws c.self.invariant.sound (line.At c.args.stamp))) in
     let fresh : c.refreshed-row.result ≡ fresh_read (λ _. c.value_at_line-value.result) q = c.refreshed-row.ensures in
     watch_gives i.var
-    (parts_of i) c.self.invariant.settled c.args.num c.args.stamp c.args.window new c.value_at_line-value.result value c.refreshed-row.result fresh c.first_give.result c.first_give.ensures
+    (parts_of i) c.self.invariant.settled c.args.num c.args.stamp c.args.window new c.value_at_line-value.result value
+    c.refreshed-row.result fresh c.first_give.result c.first_give.ensures
     ∙ ap (λ (z : Record). gives_of_watch z.var q z.parts) c.self.view_is
