@@ -52,12 +52,12 @@ module _ {X : Type 0} (key : X → RowKey) where
     | inr e ↦
         let o = or_parts (num_eq (key r).num (key x).num) (has_num key (key r).num xs) f in
         rw e (ap (λ z. cond (num_eq n (key x).num) (Some (key x).stamp) z) (stamp-add n r xs o.1)
-            ∙ by (num_eq n (key x).num) (num_eq n (key r).num) refl refl o.0)
+        ∙ by (num_eq n (key x).num) (num_eq n (key r).num) refl refl o.0)
   ]
     where
       by : (a b : Bool) → num_eq n (key x).num ≡ a → num_eq n (key r).num ≡ b → num_eq (key r).num (key x).num ≡ false
           → cond a (Some (key x).stamp) (cond b (Some (key r).stamp) (stamp_of key n xs))
-              ≡ cond b (Some (key r).stamp) (cond a (Some (key x).stamp) (stamp_of key n xs))
+          ≡ cond b (Some (key r).stamp) (cond a (Some (key x).stamp) (stamp_of key n xs))
       by true true p q o = absurd (false≢true (sym o
           ∙ (ap (λ m. num_eq m (key x).num) (sym (num_eq-same n (key r).num q)) ∙ p)))
       by true false p q o = refl
@@ -79,7 +79,7 @@ module _ {X : Type 0} (key : X → RowKey) where
       by : (a c : Bool) → p x ≡ a → num_eq n (key x).num ≡ c
           → stamp_of key n (filter p xs) ≡ stamp_kept l b (stamp_of key n xs)
           → stamp_of key n (cond a (x ∷ filter p xs) (filter p xs))
-              ≡ stamp_kept l b (cond c (Some (key x).stamp) (stamp_of key n xs))
+          ≡ stamp_kept l b (cond c (Some (key x).stamp) (stamp_of key n xs))
       by true true e g again = rw g (ap (λ z. cond z (Some (key x).stamp) None) (sym e ∙ f x g))
       by true false e g again = rw g again
       by false true e g again = gone g ∙ ap (λ z. cond z (Some (key x).stamp) None) (sym e ∙ f x g)
@@ -122,7 +122,7 @@ look-kept n l b p f (e ∷ es) d = by (p e) (is_at (num_cmp n) e.0) refl refl
     by : (a c : Bool) → p e ≡ a → is_at (num_cmp n) e.0 ≡ c
         → lookup (is_at (num_cmp n)) (filter p es) ≡ stamp_kept l b (lookup (is_at (num_cmp n)) es)
         → lookup (is_at (num_cmp n)) (cond a (e ∷ filter p es) (filter p es))
-            ≡ stamp_kept l b (cond c (Some e.1) (lookup (is_at (num_cmp n)) es))
+        ≡ stamp_kept l b (cond c (Some e.1) (lookup (is_at (num_cmp n)) es))
     by true true h g again = rw g (ap (λ z. cond z (Some e.1) None) (sym h ∙ f e (sym (num-is n e.0) ∙ g)))
     by true false h g again = rw g again
     by false true h g again = gone g ∙ ap (λ z. cond z (Some e.1) None) (sym h ∙ f e (sym (num-is n e.0) ∙ g))
@@ -139,8 +139,12 @@ Learns old new n s = (m : Num) → new m ≡ cond (num_eq m n) (Some s) (old m)
 
 pub known-alike : (r : Parts) (P C R P' C' R' : Look) → AreKnown r P C R → ((n : Num) → P' n ≡ P n)
     → ((n : Num) → C' n ≡ C n) → ((n : Num) → R' n ≡ R n) → AreKnown r P' C' R'
-known-alike r P C R P' C' R' k f g h = record { puts = λ n. f n ∙ k.puts n; cuts = λ n. g n ∙ k.cuts n; reads =
-    λ n. h n ∙ k.reads n }
+known-alike r P C R P' C' R' k f g h = record {
+  puts = λ n. f n ∙ k.puts n;
+  cuts = λ n. g n ∙ k.cuts n;
+  reads =
+      λ n. h n ∙ k.reads n;
+}
 
 -- what was learned is forgotten again
 pub unlearned : (old new gone : Look) (n : Num) (s : Stamp) → old n ≡ None → Learns old new n s
@@ -190,20 +194,32 @@ pub known-put : (p : PutRow) (r : Parts) (P C R P' : Look) → AreKnown r P C R 
     → Learns P P' p.num p.stamp → AreKnown (after_put p r) P' C R
 known-put p r P C R P' k e f =
     subst (λ b. AreKnown (cond b r (refreshed (with_put p r))) P' C R) (sym e)
-        (known-refreshed (with_put p r) P' C R (record { puts = learned put_key P P' p r.puts e k.puts f; cuts =
-        k.cuts; reads = k.reads }))
+    (known-refreshed (with_put p r) P' C R (record {
+      puts = learned put_key P P' p r.puts e k.puts f;
+      cuts =
+          k.cuts;
+      reads = k.reads;
+    }))
 
 pub known-cut : (c : CutRow) (r : Parts) (P C R C' : Look) → AreKnown r P C R → has_num cut_key c.num r.cuts ≡ false
     → Learns C C' c.num c.stamp → AreKnown (after_cut c r) P C' R
 known-cut c r P C R C' k e f =
     subst (λ b. AreKnown (cond b r (refreshed (with_cut c r))) P C' R) (sym e)
-        (known-refreshed (with_cut c r) P C' R (record { puts = k.puts; cuts =
-        learned cut_key C C' c r.cuts e k.cuts f; reads = k.reads }))
+    (known-refreshed (with_cut c r) P C' R (record {
+      puts = k.puts;
+      cuts =
+          learned cut_key C C' c r.cuts e k.cuts f;
+      reads = k.reads;
+    }))
 
 pub known-read : (q : ReadRow) (r : Parts) (P C R R' : Look) → AreKnown r P C R
     → has_num read_key q.num r.reads ≡ false → Learns R R' q.num q.stamp → AreKnown (with_read q r) P C R'
-known-read q r P C R R' k e f = record { puts = k.puts; cuts = k.cuts; reads =
-    learned read_key R R' q r.reads e k.reads f }
+known-read q r P C R R' k e f = record {
+  puts = k.puts;
+  cuts = k.cuts;
+  reads =
+      learned read_key R R' q r.reads e k.reads f;
+}
 
 pub known-watch : (q : ReadRow) (r : Parts) (P C R R' : Look) → AreKnown r P C R
     → has_num read_key q.num r.reads ≡ false → Learns R R' q.num q.stamp → AreKnown (after_watch q r) P C R'

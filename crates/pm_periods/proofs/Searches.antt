@@ -34,8 +34,11 @@ other_after a b e f = grind (arith, nat_tests, e, f)
 
 -- what stands before a key does so too where it doesn't stand behind one that does
 up_to_before : (a b k : RowKey) → key_lt b a ≡ false → key_lt b k ≡ true → key_lt a k ≡ true
-up_to_before a b k e f = elim (cases_Bool (key_lt a k)) [ inl g ↦ g | inr g ↦ absurd
-    (false≢true (sym e ∙ key_lt-up_to b k a f g)) ]
+up_to_before a b k e f = elim (cases_Bool (key_lt a k)) [
+  | inl g ↦ g
+  | inr g ↦ absurd
+      (false≢true (sym e ∙ key_lt-up_to b k a f g))
+]
 
 pick : {X : Type 0} → X → Option X → X
 pick x None = x
@@ -84,7 +87,7 @@ module _ {X : Type 0} (key : X → RowKey) where
   pub key-place : (k : RowKey) (xs : List X) (i : ℕ) → IsInOrder key xs → stamp_of key k.num xs ≡ Some k.stamp
       → i ≤ length xs → ((j : ℕ) (d : X) → j < i → key_lt (key (get_or xs j d)) k ≡ true)
       → ((j : ℕ) (d : X) → i ≤ j → j < length xs → key_lt (key (get_or xs j d)) k ≡ false)
-          → i ≡ number_place key k.num xs
+      → i ≡ number_place key k.num xs
   key-place k [] i o e le f g = absurd (false≢true (ap is_some e))
   key-place k (x ∷ xs) zero o e le f g = by (num_eq k.num (key x).num) refl e
     where
@@ -104,7 +107,7 @@ module _ {X : Type 0} (key : X → RowKey) where
           → suc i ≡ cond b 0 (suc (number_place key k.num xs))
       by true h s again =
           let same : key x ≡ k = ap₂ (λ t m. record { stamp = t; num = m }) (some_same (key x).stamp k.stamp s)
-              (sym (num_eq-same k.num (key x).num h)) in
+          (sym (num_eq-same k.num (key x).num h)) in
           absurd (false≢true (sym (key_lt-self k) ∙ (ap (λ z. key_lt z k) (sym same) ∙ f 0 x (omega arith))))
       by false h s again = ap suc (again s)
 
@@ -206,8 +209,8 @@ pub begun-at : (p : PutRow) (hs : List Held) (i : ℕ) → AreOrdered hs
     → stamp_of put_key p.num (puts_of hs) ≡ Some p.stamp → i ≤ length hs
     → ((j : ℕ) (d : Held) → j < i → goes_before p (get_or hs j d).put ≡ true)
     → ((j : ℕ) (d : Held) → i ≤ j → j < length hs → goes_before p (get_or hs j d).put ≡ false)
-        → (i < length hs) × ((d : Held) → is_of p.num (get_or hs i d).put ≡ true)
-        × AllByRecursion (λ (h : Held). is_of p.num h.put ≡ false) (take i hs)
+    → (i < length hs) × ((d : Held) → is_of p.num (get_or hs i d).put ≡ true)
+    × AllByRecursion (λ (h : Held). is_of p.num h.put ≡ false) (take i hs)
 begun-at p [] i o e le f g = absurd (false≢true (ap is_some e))
 begun-at p (h ∷ hs) zero o e le f g = (omega arith, (λ d. here h.put e (g 0 h (omega arith) (omega arith)) o.0), tt)
   where
@@ -223,7 +226,7 @@ begun-at p (h ∷ hs) zero o e le f g = (omega arith, (λ d. here h.put e (g 0 h
 begun-at p (h ∷ hs) (suc i) o e le f g =
     let past = here h.put e (f 0 h (omega arith)) in
     let again = begun-at p hs i o.1 past.1 (omega arith) (λ j d lt. f (suc j) d (omega arith))
-        (λ j d lo hi. g (suc j) d (omega arith) (omega arith)) in
+    (λ j d lo hi. g (suc j) d (omega arith) (omega arith)) in
     (omega (arith, again.0), again.1, (past.0, again.2))
   where
     here : (o : Option PutRow) → stamp_of put_key p.num (option_to_list o ++ puts_of hs) ≡ Some p.stamp
@@ -235,8 +238,8 @@ begun-at p (h ∷ hs) (suc i) o e le f g =
             ≡ Some p.stamp → (num_eq p.num q.num ≡ false) × (stamp_of put_key p.num (puts_of hs) ≡ Some p.stamp)
         by true c i =
             let same : value_key q ≡ value_key p =
-                ap₂ (λ s m. record { stamp = s; num = record { agent = m.seq; seq = m.agent } })
-                (some_same q.stamp p.stamp i) (sym (num_eq-same p.num q.num c)) in
+            ap₂ (λ s m. record { stamp = s; num = record { agent = m.seq; seq = m.agent } })
+            (some_same q.stamp p.stamp i) (sym (num_eq-same p.num q.num c)) in
             absurd (false≢true (sym (key_lt-self (value_key p)) ∙ (ap (λ z. key_lt z (value_key p)) (sym same) ∙ b)))
         by false c i = (c, i)
 
@@ -280,10 +283,10 @@ pub live-look : (hs : List Held) (ws : List Withdrawal) (P C R : Num → Option 
     → P n ≡ stamp_of put_key n (puts_of hs)
 live-look hs ws P C R s k n e =
     k.puts n ∙ (stamp-sorted put_key n (puts_of hs ++ withdrawn_of ws) s.once
-        ∙ (stamp-append put_key n (puts_of hs) (withdrawn_of ws)
+    ∙ (stamp-append put_key n (puts_of hs) (withdrawn_of ws)
     ∙ (ap (or_else (stamp_of put_key n (puts_of hs)))
-        (stamp-none put_key n (withdrawn_of ws) (withdrawn-none n ws s.named e))
-        ∙ or_none (stamp_of put_key n (puts_of hs)))))
+    (stamp-none put_key n (withdrawn_of ws) (withdrawn-none n ws s.named e))
+    ∙ or_none (stamp_of put_key n (puts_of hs)))))
 
 -- a number that isn't known has no stamp
 pub not-some : (o : Option Stamp) → is_some o ≡ false → o ≡ None

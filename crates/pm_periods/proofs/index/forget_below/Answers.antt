@@ -13,7 +13,7 @@ returns c n =
     let old = c.args.known.now.entries in
     let l = c.args.line in
     let kept = filter_same_pairs _ (λ e. not (is_below e.1 l)) _
-        (λ k v b w f' t. search rules) _ _ c.retain.ensures.filtered in
+    (λ k v b w f' t. search rules) _ _ c.retain.ensures.filtered in
     ap (lookup (is_at (num_cmp n))) kept
     ∙ look-kept n l false (λ e. not (is_below e.1 l)) (λ e h. or_false (not (is_below e.1 l))) old
-        (IsDistinct-from_sorted num_cmp _ c.retain.ensures.was_ordered)
+    (IsDistinct-from_sorted num_cmp _ c.retain.ensures.was_ordered)

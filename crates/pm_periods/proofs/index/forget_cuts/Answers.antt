@@ -16,8 +16,8 @@ returns c n =
     let l = c.args.line in
     let puts = c.args.puts.now in
     let kept = filter_same_pairs _ (λ e. not (is_below e.1 l) || is_some (get num_cmp puts e.0)) _
-        (λ k v b w f' t. search rules) _ _ c.retain.ensures.filtered in
+    (λ k v b w f' t. search rules) _ _ c.retain.ensures.filtered in
     ap (lookup (is_at (num_cmp n))) kept
     ∙ look-kept n l (is_some (get num_cmp puts n)) (λ e. not (is_below e.1 l) || is_some (get num_cmp puts e.0))
-        (λ e h. ap (λ m. not (is_below e.1 l) || is_some (get num_cmp puts m)) (num_eq-same e.0 n h)) old
-        (IsDistinct-from_sorted num_cmp _ c.retain.ensures.was_ordered)
+    (λ e h. ap (λ m. not (is_below e.1 l) || is_some (get num_cmp puts m)) (num_eq-same e.0 n h)) old
+    (IsDistinct-from_sorted num_cmp _ c.retain.ensures.was_ordered)

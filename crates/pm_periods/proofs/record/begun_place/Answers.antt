@@ -15,12 +15,16 @@ reached : (c : goal.After-partition_point) → (c.partition_point.result < lengt
     × AllByRecursion (λ (h : Held). is_of c.args.num h.put ≡ false) (take c.partition_point.result c.args.periods.now)
 reached c =
     let hs = c.args.periods.now in
-    let row : PutRow = record { num = c.args.num; stamp = c.args.stamp; change =
-        change.Set (record { x = pos 0; y = pos 0 }) } in
+    let row : PutRow = record {
+      num = c.args.num;
+      stamp = c.args.stamp;
+      change =
+          change.Set (record { x = pos 0; y = pos 0 });
+    } in
     let test : Option PutRow → Bool = goes_before row in
     let point =
-        IsPartitionPoint-from_clause
-        (λ (h : Held). test h.put) hs c.partition_point.result c.partition_point.ensures.partitioned
+    IsPartitionPoint-from_clause
+    (λ (h : Held). test h.put) hs c.partition_point.result c.partition_point.ensures.partitioned
     (parted test (before_mono row) hs c.requires.order) (λ a r q f. search rules) in
     begun-at row hs c.partition_point.result c.requires.order c.requires.there c.partition_point.ensures.bound
     (λ j d lt. point.0 j d (omega arith) lt) (λ j d le lt. point.1 j d le lt)
