@@ -11,6 +11,9 @@ use denote.Struct.Record as record_of
 use Rattle.std.proofs.Crossing as crossing
 use Rattle.std.proofs.MapsCrossing as maps
 use Rattle.std.proofs.MapsCrossingOver as over
+use Rattle.std.specs.contracts.alloc.Global as heap
+use Rattle.std.specs.contracts.boxed.Box as box
+use Rattle.std.specs.contracts.impls.GlobalAllocator.TheImpl as global
 use Rattle.std.specs.contracts.option.Option as option
 use Rattle.pm_base.proofs.program.Expr.TheLaws.TheKnot as expr_knot
 use Rattle.pm_base.proofs.program.Stmt.TheLaws.TheKnot as stmt_knot
@@ -168,13 +171,18 @@ plan_send κ = search (crosses, plan_sync) depth 20
 number_send : IsSend (as_row u32-field)
 number_send = search crosses depth 20
 
+-- its process, in a box
+process_box_send : (κ : NamedLft)
+    → IsSend (as_row (box.the_field (process.the_row κ) heap.the_row global.ghosts))
+process_box_send κ = crossing.Box-send (process.the_row κ) (process_send κ)
+
+-- its out-ends, in a box
+outs_box_send : IsSend (as_row (box.the_field out_ends.the_row heap.the_row global.ghosts))
+outs_box_send = crossing.Box-send out_ends.the_row out_crosses.the_send
+
 -- a cell's in-ends
 inns_send : IsSend (as_row in_ends.the_field)
 inns_send = in_crosses.the_send
-
--- a cell's out-ends
-outs_send : IsSend (as_row out_ends.the_field)
-outs_send = out_crosses.the_send
 
 -- a cell's story
 story_send : IsSend (as_row history.the_field)
@@ -192,6 +200,10 @@ spoilt_send = search crosses depth 20
 window_send : IsSend (as_row (option.the_field line.the_row))
 window_send = search crosses depth 20
 
+-- how many writes it withdrew
+withdrawn_send : IsSend (as_row u64-field)
+withdrawn_send = search crosses depth 20
+
 -- a cell's fields
 inside_send : (κ : NamedLft) → IsSend (inside.the_row κ)
 inside_send κ = declared_send (record_of.declared (inside.struct κ) inside.the_propositions) (
@@ -199,10 +211,13 @@ inside_send κ = declared_send (record_of.declared (inside.struct κ) inside.the
   (
     number_send,
     (
-      process_send κ,
+      process_box_send κ,
       (
-        inns_send,
-        (outs_send, (story_send, (clock_send, (spoilt_send, (window_send, tt))))),
+        outs_box_send,
+        (
+          inns_send,
+          (story_send, (clock_send, (spoilt_send, (window_send, (withdrawn_send, tt))))),
+        ),
       ),
     ),
   ),
