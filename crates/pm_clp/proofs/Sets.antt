@@ -48,7 +48,7 @@ word_set words a v within =
     let or : Bool → Bool = λ b. b || in_set words v in
     elim (cases_eq (v / 64) (a / 64)) [
       | inr apart ↦ other-word words (a / 64) new v apart
-        ∙ sym (ap or (ne_eqb a v (λ e. apart (ap (λ x. x / 64) (sym e)))))
+          ∙ sym (ap or (ne_eqb a v (λ e. apart (ap (λ x. x / 64) (sym e)))))
       | inl here ↦ this-word words (a / 64) new v within here ∙ elim (cases_eq (v % 64) (a % 64)) [
         | inl same ↦
             let one : bit_at new (v % 64) ≡ 1 = ap (bit_at new) same ∙ bit_at_set_same w64 word (a % 64) low in
@@ -56,7 +56,7 @@ word_set words a v within =
             eq-eqb _ 1 one ∙ sym (ap or (eq-eqb a v is))
         | inr other ↦
             let old : bit_at new (v % 64) ≡ bit_at word (v % 64) =
-                bit_at_set_other w64 word (a % 64) low (v % 64) other in
+            bit_at_set_other w64 word (a % 64) low (v % 64) other in
             let isnt : a ≢ v = λ e. other (ap (λ x. x % 64) (sym e)) in
             ap (λ b. b == 1) (old ∙ ap (λ k. bit_at (get_or words k 0) (v % 64)) (sym here))
             ∙ sym (ap or (ne_eqb a v isnt))
@@ -73,7 +73,7 @@ word_cleared words a v within =
     let and : Bool → Bool = λ b. not b && in_set words v in
     elim (cases_eq (v / 64) (a / 64)) [
       | inr apart ↦ other-word words (a / 64) new v apart
-        ∙ sym (ap and (ne_eqb a v (λ e. apart (ap (λ x. x / 64) (sym e)))))
+          ∙ sym (ap and (ne_eqb a v (λ e. apart (ap (λ x. x / 64) (sym e)))))
       | inl here ↦ this-word words (a / 64) new v within here ∙ elim (cases_eq (v % 64) (a % 64)) [
         | inl same ↦
             let none : bit_at new (v % 64) ≡ 0 = ap (bit_at new) same ∙ bit_at_clear_same w64 word (a % 64) low in
@@ -81,7 +81,7 @@ word_cleared words a v within =
             ap (λ b. b == 1) none ∙ sym (ap and (eq-eqb a v is))
         | inr other ↦
             let old : bit_at new (v % 64) ≡ bit_at word (v % 64) =
-                bit_at_clear_other w64 word (a % 64) low (v % 64) (omega arith) other in
+            bit_at_clear_other w64 word (a % 64) low (v % 64) (omega arith) other in
             let isnt : a ≢ v = λ e. other (ap (λ x. x % 64) (sym e)) in
             ap (λ b. b == 1) (old ∙ ap (λ k. bit_at (get_or words k 0) (v % 64)) (sym here))
             ∙ sym (ap and (ne_eqb a v isnt))
@@ -122,7 +122,9 @@ lowest_first words at v fits some from until =
     let t : ℕ = trailing_zeros w64 n in
     let inside : at % 64 + t < 64 = elim (cases_lt (at % 64 + t) 64) [
       | inl is ↦ is
-      | inr past ↦ absurd (omega (arith,
-        sym lowest.1 ∙ shifted word (at % 64) t ∙ bit_at_above word 64 (at % 64 + t) fits past))
+      | inr past ↦ absurd (omega (
+        arith,
+        sym lowest.1 ∙ shifted word (at % 64) t ∙ bit_at_above word 64 (at % 64 + t) fits past,
+      ))
     ] in
     bit_none words at v from (omega arith) (lowest.2 (v - at) (omega arith))

@@ -93,7 +93,10 @@ const CROWD: Row = Row {
     scenario: "",
     turns: &[6, 301, 1001, 0, 0, 0],
     journal: "#j d 6 6\n#j d 301 301\n#j d 1001 1001\n#j d 0 1001\n#j d 0 301\n#j d 0 6\n",
-    line: Line::At(Stamp { time: 1, agent: 1023 }),
+    line: Line::At(Stamp {
+        time: 1,
+        agent: 1023,
+    }),
     trace: "",
     later: &[1024, 0],
     rest: "#j d 1024 1024\n#j d 0 1024\n",
@@ -107,7 +110,9 @@ fn crowd(alloc: Global) -> Result<String, AllocError> {
     )?;
     for k in 0..1024_u32 {
         let start = 1024 - k;
-        let agent = format!(in alloc; "[[agent]]\nname = \"a{k}\"\nhome = \"root\"\nstart = {start}\nrule = \"set c0 = 1, 0\"\n")?;
+        let agent = format!(in alloc;
+            "[[agent]]\nname = \"a{k}\"\nhome = \"root\"\nstart = {start}\nrule = \"set c0 = 1, 0\"\n"
+        )?;
         text.push_str(agent.as_str())?;
     }
     Ok(text)

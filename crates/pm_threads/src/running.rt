@@ -122,7 +122,12 @@ fn stages<R: Threads + Sync + Copy, G: Gate + Sync, K: Sink>(
                 left -= made;
                 last = bound;
                 let stepped = counts.steps.saturating_sub(steps);
-                pace.learn(made, stepped, crew.withdrawn(), is_through(crew.least(), bound));
+                pace.learn(
+                    made,
+                    stepped,
+                    crew.withdrawn(),
+                    is_through(crew.least(), bound),
+                );
             }
             Staged::WriteFault => return Outcome::WriteFault,
             Staged::Memory => return Outcome::Memory,

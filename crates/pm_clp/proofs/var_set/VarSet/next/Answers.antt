@@ -20,9 +20,9 @@ returns-then-bits-ne0-clause-least c v low high =
       | inr from ↦
           let words : List ℕ = c.self.inside.words.items in
           let word : c.in-Some.word.now ≡ word_of words c.loop-at.at =
-              read c.deref.result.now words c.loop-at.at c.in-Some.word.now c.deref.ensures.value
-              (ltb-true (c.loop-at.at / 64) (length c.deref.result.now) (sym c.in-Some.ensures.lookup.0))
-              c.in-Some.ensures.lookup.1 in
+          read c.deref.result.now words c.loop-at.at c.in-Some.word.now c.deref.ensures.value
+          (ltb-true (c.loop-at.at / 64) (length c.deref.result.now) (sym c.in-Some.ensures.lookup.0))
+          c.in-Some.ensures.lookup.1 in
           let place : ℕ → ℕ = λ w. w / 2 ^ (c.loop-at.at % 64) in
           subst (λ ws. in_set ws v ≡ false) c.self.view_is
           (lowest_first words c.loop-at.at v (subst (λ w. w < 2 ^ 64) word (search rules))
@@ -38,9 +38,9 @@ loop-at-preserved c = record {
     | inr from ↦
         let words : List ℕ = c.self.inside.words.items in
         let word : c.in-Some.word.now ≡ word_of words c.loop-at.at =
-            read c.deref.result.now words c.loop-at.at c.in-Some.word.now c.deref.ensures.value
-            (ltb-true (c.loop-at.at / 64) (length c.deref.result.now) (sym c.in-Some.ensures.lookup.0))
-            c.in-Some.ensures.lookup.1 in
+        read c.deref.result.now words c.loop-at.at c.in-Some.word.now c.deref.ensures.value
+        (ltb-true (c.loop-at.at / 64) (length c.deref.result.now) (sym c.in-Some.ensures.lookup.0))
+        c.in-Some.ensures.lookup.1 in
         rest_none words c.loop-at.at v (subst (λ w. w / 2 ^ (c.loop-at.at % 64) ≡ 0) word c.if-bits-ne0.false) from high
   ];
 }

@@ -10,7 +10,7 @@ returns-then-at-len c v =
     let at : ℕ = c.args.var / 64 in
     let long : at < length words = omega (arith, c.if-at-len.true, c.len.ensures) in
     let word : c.index_mut.result.now ≡ word_of words c.args.var =
-        c.index_mut.ensures.value ∙ get_or_default words at c.index_mut.result.now 0 long in
+    c.index_mut.ensures.value ∙ get_or_default words at c.index_mut.result.now 0 long in
     ap (λ x. in_set (set words at (without_bit c.args.var x)) v) word
     ∙ word_cleared words c.args.var v long
     ∙ ap (λ ws. not (c.args.var == v) && in_set ws v) c.self.view_is
