@@ -2,30 +2,26 @@
 use pm_base::{Line, Stamp};
 use pm_kernel::Ahead;
 
-// At most one withdrawn write in so many deliveries: agents hardly meet.
+// At most one withdrawn write in so many deliveries of the run: agents hardly meet.
 const FEW: u64 = 256;
 
-// More than one withdrawn write in so many deliveries: they meet too often.
+// More than one withdrawn write in so many deliveries of a stage: they meet too often.
 const MANY: u64 = 32;
 
 // The most times that agents run ahead.
 const FARTHEST: u64 = 1 << 20;
 
-// The most quiet stages that are waited for before agents run farther ahead.
-const LONGEST: u32 = 1 << 10;
-
 /// The bound on how far agents run ahead of one another, as it changes from stage to stage. One part of it counts agents
 /// (`Ahead`): it lets the next step of each of so many through. The other counts times: agents that don't meet may take
-/// many steps each before the next Commit, and an epoch is then worth its threads. Such a reach doubles where hardly a
-/// write was withdrawn and falls to a quarter where many were; after each fall it waits twice as long before it grows
-/// again, since a run whose agents meet now and then would else try in vain at every second stage.
+/// many steps each before the next Commit, and an epoch is then worth its threads. Such a reach doubles while hardly a
+/// write of the whole run was withdrawn, and falls to a quarter where many were in a stage. Since one stage that ran too
+/// far ahead withdraws many, the run has to be quiet for long before its reach grows again.
 #[derive(Clone, Copy, Debug)]
 pub struct Pace {
     ahead: Ahead,
     reach: u64,
-    quiet: u32,
-    patience: u32,
-    // How many writes had been withdrawn before the last stage, by the cells' count.
+    // The deliveries of the run, and the writes that were withdrawn in it, by the cells' count.
+    made: u64,
     withdrawn: u64,
     has_fallen: bool,
 }
@@ -36,8 +32,7 @@ impl Pace {
         Pace {
             ahead: Ahead::new(),
             reach: 0,
-            quiet: 0,
-            patience: 1,
+            made: 0,
             withdrawn: 0,
             has_fallen: false,
         }
@@ -70,28 +65,13 @@ impl Pace {
     pub fn learn(&mut self, made: u64, steps: u64, withdrawn: u64, is_through: bool) {
         let taken_back = withdrawn.saturating_sub(self.withdrawn);
         self.withdrawn = withdrawn;
+        self.made = self.made.saturating_add(made);
         self.ahead.learn(made, steps);
         self.has_fallen = false;
         if taken_back.saturating_mul(MANY) > made {
-            self.fall();
-        } else if is_through && taken_back.saturating_mul(FEW) <= made {
-            self.grow();
-        }
-    }
-
-    // Agents met too often.
-    fn fall(&mut self) {
-        self.has_fallen = self.reach > 0;
-        self.reach /= 4;
-        self.quiet = 0;
-        self.patience = self.patience.saturating_mul(2).min(LONGEST);
-    }
-
-    // Agents hardly met.
-    fn grow(&mut self) {
-        self.quiet = self.quiet.saturating_add(1);
-        if self.quiet >= self.patience {
-            self.quiet = 0;
+            self.has_fallen = self.reach > 0;
+            self.reach /= 4;
+        } else if is_through && withdrawn.saturating_mul(FEW) <= self.made {
             self.reach = self.reach.saturating_mul(2).clamp(1, FARTHEST);
         }
     }
