@@ -7,7 +7,7 @@ ghost use Rattle.pm_sim.specs.Journals.{made};
 ghost use Rattle.pm_sim.specs.Worlds.{least_line};
 ghost use Rattle.pm_threads.specs.Crews.{Extends, HasClosed, Stands, Stays, WentOn, Worked, run_of};
 
-use crate::stories::{ahead_of, histories, set_windows, withdrawn};
+use crate::stories::{ahead_of, histories, set_windows};
 use pm_base::{Entry, Event, Journal, Line, List, Memory};
 use pm_cell::{Cell, cells, commit, least, settle};
 use pm_history::merge;
@@ -211,11 +211,6 @@ impl<'a, R: Threads + Sync + Copy, G: Gate + Sync> Crew<'a, R, G> {
     /// it.
     pub fn ahead(&self, alloc: Global, count: usize) -> Result<Option<Line>, Memory> {
         ahead_of(alloc, self.cells.as_slice(), count)
-    }
-
-    /// How many writes the cells withdrew so far, as far as they count. No theorem needs it.
-    pub fn withdrawn(&self) -> u64 {
-        withdrawn(self.cells.as_slice())
     }
 
     // How many workers an epoch of at most so many deliveries has.

@@ -3,7 +3,6 @@
 #![tactic(auto)]
 
 mod crew;
-mod pace;
 mod running;
 mod stage;
 mod stories;

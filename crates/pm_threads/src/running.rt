@@ -13,11 +13,10 @@ ghost use Rattle.pm_sim.specs.Journals.{made};
 ghost use Rattle.pm_sim.specs.Worlds.{committed, least_line};
 
 use crate::crew::Crew;
-use crate::pace::Pace;
 use crate::stage::stage;
 use pm_base::{Line, RunSettings};
 use pm_io::{Gate, Sink};
-use pm_kernel::{Counts, Outcome, Ran, Staged, Wrote, run_plain, write_entries};
+use pm_kernel::{Ahead, Counts, Outcome, Ran, Staged, Wrote, run_plain, write_entries};
 use pm_plan::Plan;
 use std::alloc::Global;
 use std::thread::Threads;
@@ -30,54 +29,20 @@ fn is_below(line: Line, other: Line) -> bool {
     }
 }
 
-// The lower of two bounds.
-fn lower(one: Line, other: Option<Line>) -> Line {
-    match other {
-        Some(line) if line.is_lower(&one) => line,
-        _ => one,
-    }
-}
-
-// A bound from the least moment on. Want of memory leaves it without one.
-fn fresh<R: Threads + Sync + Copy, G: Gate + Sync>(
-    alloc: Global,
-    pace: &Pace,
-    crew: &Crew<'_, R, G>,
-) -> Option<Line>
-    requires { crew.now.spoilt ≡ false }
-{
-    let bound = crew.ahead(alloc, pace.agents()).unwrap_or(None);
-    pace.wider(crew.least(), bound)
-}
-
 // The bound of the next epoch: the last one again while something below it is left, since the steps that it let through
-// come to their end before others begin (an epoch ends where the share of one cell is used up, too). Where these met too
-// often, the bound comes nearer, and never goes farther meanwhile.
+// come to their end before others begin (an epoch ends where the share of one cell is used up, too). Want of memory leaves
+// it without one.
 fn bound_of<R: Threads + Sync + Copy, G: Gate + Sync>(
     alloc: Global,
-    pace: &Pace,
+    ahead: &Ahead,
     last: Option<Line>,
     crew: &Crew<'_, R, G>,
 ) -> Option<Line>
     requires { crew.now.spoilt ≡ false }
 {
     match last {
-        Some(line) if is_below(crew.least(), line) => {
-            if pace.has_fallen() {
-                Some(lower(line, fresh(alloc, pace, crew)))
-            } else {
-                Some(line)
-            }
-        }
-        _ => fresh(alloc, pace, crew),
-    }
-}
-
-// Whether nothing is left below the bound.
-fn is_through(least: Line, bound: Option<Line>) -> bool {
-    match bound {
-        Some(line) => !is_below(least, line),
-        None => true,
+        Some(line) if is_below(crew.least(), line) => Some(line),
+        _ => crew.ahead(alloc, ahead.agents()).unwrap_or(None),
     }
 }
 
@@ -112,22 +77,16 @@ fn stages<R: Threads + Sync + Copy, G: Gate + Sync, K: Sink>(
     ensures stalls { K.stalls out.old ≤ K.stalls out.new }
 {
     let mut left = settings.budget;
-    let mut pace = Pace::new();
+    let mut ahead = Ahead::new();
     let mut last = None;
     while left > 0 && !crew.is_over() {
-        let bound = bound_of(alloc, &pace, last, crew);
+        let bound = bound_of(alloc, &ahead, last, crew);
         let steps = counts.steps;
         match stage(alloc, plan, settings, left, bound, crew, counts, out) {
             Staged::More(made) => {
                 left -= made;
                 last = bound;
-                let stepped = counts.steps.saturating_sub(steps);
-                pace.learn(
-                    made,
-                    stepped,
-                    crew.withdrawn(),
-                    is_through(crew.least(), bound),
-                );
+                ahead.learn(made, counts.steps.saturating_sub(steps));
             }
             Staged::WriteFault => return Outcome::WriteFault,
             Staged::Memory => return Outcome::Memory,

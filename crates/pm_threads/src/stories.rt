@@ -29,15 +29,6 @@ pub fn histories(alloc: Global, cells: &[Cell<'_>]) -> Result<List<History>, Mem
     Ok(all)
 }
 
-/// How many writes the cells withdrew so far.
-pub fn withdrawn(cells: &[Cell<'_>]) -> u64 {
-    let mut count: u64 = 0;
-    for cell in cells {
-        count = count.saturating_add(cell.withdrawn());
-    }
-    count
-}
-
 // Keeps the so many least stamps, in order.
 fn keep_least(least: &mut Vec<Stamp>, stamp: Stamp, count: usize) -> Result<(), Memory> {
     let at = least.partition_point(|kept| kept.is_before(&stamp));
